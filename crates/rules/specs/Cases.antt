@@ -1,0 +1,163 @@
+-- Section "Checked cases": P1 to P12 as one table. A case is a list of submissions on a fresh ledger. Each is written as a record, submitted,
+-- and held against the answer and the word that the paper gives, what wallets then have, and the release codes that receipts then have.
+use mathlib.Core.List.{List, [], _∷_}
+use mathlib.Core.Bool.{Bool, true, _&&_}
+use Prim.Native.Nat.{ℕ, _+_, _-_, _*_}
+use lib.ListN.{replicate}
+use lib.Dec.{eqb}
+use Rattle.rules.specs.Limits.{MAX-AMOUNT-MICRO, MAX-HOLD-MS, BALANCE, LOCKED, RELEASE-CODE}
+use Rattle.rules.specs.Limits.{GRANT, TRANSFER, OPEN, RELEASE, CLAIM, ACCEPT, SWEEP}
+use Rattle.rules.specs.Ledger.{Ledger, ledger, fresh, walletOf, receipt}
+use Rattle.rules.specs.Record.{encode}
+use Rattle.rules.specs.Submit.{submit}
+use Rattle.rules.specs.declared.Submission.{Submission}
+
+-- a wallet has this balance and this locked
+pub record Has : Type 0 where
+  pub id : ℕ
+  pub balance : ℕ
+  pub locked : ℕ
+
+-- a receipt has this release code
+pub record Code : Type 0 where
+  pub number : ℕ
+  pub code : ℕ
+
+pub record Step : Type 0 where
+  pub submission : Submission
+  pub number : ℕ
+  pub word : ℕ
+  pub has : List Has
+  pub codes : List Code
+
+-- the paper's P1 to P12 by their numbers
+pub record Case : Type 0 where
+  pub label : ℕ
+  pub steps : List Step
+
+-- tables of 4 wallets, 4 escrows, 4 receipts and 8 journal rows, every word of them at its largest
+abbrev pub ODD-WORD : ℕ
+ODD-WORD = 18_446_744_073_709_551_615
+
+abbrev pub tables : Ledger
+tables =
+    ledger (replicate 8 ODD-WORD) (replicate 24 ODD-WORD) (replicate 32 ODD-WORD) (replicate 56 ODD-WORD) (replicate 64 ODD-WORD)
+
+abbrev pub hasAll : Ledger → List Has → Bool
+hasAll L [] = true
+hasAll L (h ∷ hs) = eqb (walletOf L (h .id) BALANCE) (h .balance) && (eqb (walletOf L (h .id) LOCKED) (h .locked) && hasAll L hs)
+
+abbrev pub codesAll : Ledger → List Code → Bool
+codesAll L [] = true
+codesAll L (c ∷ cs) = eqb (receipt L (c .number - 1) RELEASE-CODE) (c .code) && codesAll L cs
+
+abbrev pub goes : List Step → Ledger → Bool
+goes [] L = true
+goes (x ∷ xs) L =
+    let a = submit L (encode (x .submission)) in
+    eqb (a .number) (x .number) && (eqb (a .word) (x .word) && (hasAll (a .left) (x .has) && (codesAll (a .left) (x .codes) && goes xs (a .left))))
+
+abbrev pub allGo : List Case → Bool
+allGo [] = true
+allGo (c ∷ cs) = goes (c .steps) (fresh tables .left) && allGo cs
+
+-- op flags now signer nonce issued expires target amount until link
+abbrev sub : ℕ → ℕ → ℕ → ℕ → ℕ → ℕ → ℕ → ℕ → ℕ → ℕ → ℕ → Submission
+sub op flags now signer nonce issued expires target amount until link = record {
+  op = op;
+  flags = flags;
+  now = now;
+  signer = signer;
+  nonce = nonce;
+  issued = issued;
+  expires = expires;
+  target = target;
+  amount = amount;
+  until = until;
+  link = link;
+  hash0 = 0;
+  hash1 = 0;
+  hash2 = 0;
+  hash3 = 0;
+}
+
+abbrev case : ℕ → List Step → Case
+case label steps = record { label = label; steps = steps }
+
+abbrev step : Submission → ℕ → ℕ → Step
+step s number word = record { submission = s; number = number; word = word; has = []; codes = [] }
+
+abbrev leaves : Submission → ℕ → ℕ → List Has → Step
+leaves s number word has = record { submission = s; number = number; word = word; has = has; codes = [] }
+
+abbrev has : ℕ → ℕ → ℕ → Has
+has id balance locked = record { id = id; balance = balance; locked = locked }
+
+-- grant 50,000,000 to 7; its signer is an admin, 1
+abbrev P1 : Step
+P1 = leaves (sub GRANT 0b0011 1_000 1 1 1_000 2_000 7 50_000_000 0 0) 0 0 (has 7 50_000_000 0 ∷ [])
+
+-- 7 opens 20,000,000 to 8, until 501,000
+abbrev opening : Submission
+opening = sub OPEN 0b0001 1_000 7 1 1_000 2_000 8 20_000_000 501_000 0
+
+abbrev P2 : Step
+P2 = leaves opening 0 1 (has 7 30_000_000 20_000_000 ∷ has 8 0 0 ∷ [])
+
+-- 7 releases escrow 1
+abbrev releases : ℕ → ℕ → Submission
+releases now nonce = sub RELEASE 0b0001 now 7 nonce now (now + 1_000) 1 0 0 0
+
+abbrev P4 : Step
+P4 = leaves (releases 501_000 2) 0 0 (has 8 20_000_000 0 ∷ has 7 30_000_000 0 ∷ [])
+
+abbrev transfers : ℕ → Submission
+transfers amount = sub TRANSFER 0b0001 1_000 7 5 1_000 2_000 8 amount 0 0
+
+-- a grant at 100,000 with this envelope
+abbrev enveloped : ℕ → ℕ → Submission
+enveloped issued expires = sub GRANT 0b0011 100_000 1 1 issued expires 7 1 0 0
+
+-- 7 opens 1,000,000 to 8 at 1,000
+abbrev opens : ℕ → ℕ → Submission
+opens nonce until = sub OPEN 0b0001 1_000 7 nonce 1_000 2_000 8 1_000_000 until 0
+
+-- 8 claims on escrow 1, and 7 accepts a receipt in time
+abbrev claims : ℕ → Submission
+claims nonce = sub CLAIM 0b0001 1_000 8 nonce 1_000 2_000 7 0 400_000 1
+
+abbrev accepts : ℕ → ℕ → Submission
+accepts nonce number = sub ACCEPT 0b0001 400_000 7 nonce 400_000 401_000 number 0 0 0
+
+abbrev sweeps : Submission
+sweeps = sub SWEEP 0 3_000 0 0 0 0 0 1 0 0
+
+-- THE TABLE
+abbrev pub cases : List Case
+cases =
+    case 1 (P1 ∷ [])
+    ∷ case 2 (P1 ∷ P2 ∷ [])
+    ∷ case 3 (P1 ∷ P2 ∷ leaves opening 11 0 (has 7 30_000_000 20_000_000 ∷ []) ∷ [])
+    ∷ case 4 (P1 ∷ P2 ∷ P4 ∷ [])
+    ∷ case 5 (P1 ∷ P2 ∷ leaves (releases 501_001 2) 29 0 (has 8 0 0 ∷ []) ∷ [])
+    ∷ case 6 (P1 ∷ P2 ∷ P4 ∷ leaves (releases 501_000 3) 29 0 (has 8 20_000_000 0 ∷ []) ∷ [])
+    ∷ case 7 (P1 ∷ step (transfers 0) 12 0 ∷ step (transfers MAX-AMOUNT-MICRO) 17 0 ∷ step (transfers (MAX-AMOUNT-MICRO + 1)) 12 0 ∷ [])
+    ∷ case 8 (step (enveloped 130_001 140_000) 8 0 ∷ step (enveloped 130_000 140_000) 0 0 ∷ [])
+    ∷ case 9 (step (enveloped 100_000 3_700_001) 10 0 ∷ step (enveloped 100_000 3_700_000) 0 0 ∷ [])
+    ∷ case 10
+    (P1 ∷ step (opens 2 1_000) 20 0 ∷ step (opens 2 (1_000 + MAX-HOLD-MS + 1)) 21 0 ∷ step (opens 2 1_001) 0 1
+    ∷ step (opens 3 (1_000 + MAX-HOLD-MS)) 0 2 ∷ [])
+    ∷ case 11
+    (P1 ∷ P2 ∷ step (claims 1) 0 1 ∷ step (claims 2) 0 2 ∷ step (accepts 2 1) 0 1
+    ∷ record {
+      submission = accepts 3 2;
+      number = 0;
+      word = 0;
+      has = has 7 30_000_000 0 ∷ has 8 20_000_000 0 ∷ [];
+      codes = record { number = 1; code = 0 } ∷ record { number = 2; code = 29 } ∷ [];
+    }
+    ∷ [])
+    ∷ case 12
+    (P1 ∷ step (opens 2 2_000) 0 1 ∷ step (opens 3 2_000) 0 2 ∷ step sweeps 0 1 ∷ step sweeps 0 1
+    ∷ leaves sweeps 0 0 (has 7 50_000_000 0 ∷ []) ∷ [])
+    ∷ []

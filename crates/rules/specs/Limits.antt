@@ -1,0 +1,275 @@
+-- The numbers of document 01 by name: limits, times, columns, operations, states. Credits are micro-credits and times milliseconds.
+use Prim.Native.Nat.{ℕ}
+
+-- row lengths in words, and the most rows
+abbrev pub WALLET-LEN : ℕ
+WALLET-LEN = 6
+
+abbrev pub RECEIPT-LEN : ℕ
+RECEIPT-LEN = 14
+
+abbrev pub JOURNAL-LEN : ℕ
+JOURNAL-LEN = 8
+
+abbrev pub MAX-WALLETS : ℕ
+MAX-WALLETS = 1024
+
+abbrev pub MAX-ESCROWS : ℕ
+MAX-ESCROWS = 4096
+
+abbrev pub MAX-RECEIPTS : ℕ
+MAX-RECEIPTS = 4096
+
+abbrev pub MAX-ENTRIES : ℕ
+MAX-ENTRIES = 8192
+
+-- amounts
+abbrev pub MAX-AMOUNT-MICRO : ℕ
+MAX-AMOUNT-MICRO = 1_000_000_000_000_000
+
+abbrev pub MAX-GRANTED-MICRO : ℕ
+MAX-GRANTED-MICRO = 1_000_000_000_000_000_000
+
+abbrev pub DEFAULT-TX-CAP-MICRO : ℕ
+DEFAULT-TX-CAP-MICRO = 100_000_000
+
+abbrev pub DEFAULT-DAILY-CAP-MICRO : ℕ
+DEFAULT-DAILY-CAP-MICRO = 1_000_000_000
+
+-- times; the last one is 2^48 - 1
+abbrev pub LAST-TIME-MS : ℕ
+LAST-TIME-MS = 281_474_976_710_655
+
+abbrev pub MAX-SKEW-MS : ℕ
+MAX-SKEW-MS = 30_000
+
+abbrev pub MAX-ENVELOPE-MS : ℕ
+MAX-ENVELOPE-MS = 3_600_000
+
+abbrev pub DAY-MS : ℕ
+DAY-MS = 86_400_000
+
+abbrev pub MAX-HOLD-MS : ℕ
+MAX-HOLD-MS = 604_800_000
+
+abbrev pub MIN-ACCEPTANCE-MS : ℕ
+MIN-ACCEPTANCE-MS = 300_000
+
+abbrev pub MAX-ACCEPTANCE-MS : ℕ
+MAX-ACCEPTANCE-MS = 604_800_000
+
+-- the most rows that a sweep closes
+abbrev pub MAX-SWEEP-ROWS : ℕ
+MAX-SWEEP-ROWS = 1_000
+
+-- the bytes of a record, and its mark
+abbrev pub RECORD-BYTES : ℕ
+RECORD-BYTES = 108
+
+abbrev pub MARK-0 : ℕ
+MARK-0 = 0xA7
+
+abbrev pub MARK-1 : ℕ
+MARK-1 = 0x3C
+
+-- words of the header
+abbrev pub EDITION : ℕ
+EDITION = 0
+
+abbrev pub SYSTEM-FROZEN : ℕ
+SYSTEM-FROZEN = 1
+
+abbrev pub CLOCK : ℕ
+CLOCK = 2
+
+abbrev pub GRANTED : ℕ
+GRANTED = 3
+
+abbrev pub WALLETS : ℕ
+WALLETS = 4
+
+abbrev pub ESCROWS : ℕ
+ESCROWS = 5
+
+abbrev pub RECEIPTS : ℕ
+RECEIPTS = 6
+
+abbrev pub ENTRIES : ℕ
+ENTRIES = 7
+
+-- words of a wallet
+abbrev pub ID : ℕ
+ID = 0
+
+abbrev pub BALANCE : ℕ
+BALANCE = 1
+
+abbrev pub LOCKED : ℕ
+LOCKED = 2
+
+abbrev pub FROZEN : ℕ
+FROZEN = 3
+
+abbrev pub TX-CAP : ℕ
+TX-CAP = 4
+
+abbrev pub DAILY-CAP : ℕ
+DAILY-CAP = 5
+
+-- words of an escrow
+abbrev pub FROM : ℕ
+FROM = 0
+
+abbrev pub TO : ℕ
+TO = 1
+
+abbrev pub ESCROW-AMOUNT : ℕ
+ESCROW-AMOUNT = 2
+
+abbrev pub ESCROW-DEADLINE : ℕ
+ESCROW-DEADLINE = 3
+
+abbrev pub ESCROW-STATE : ℕ
+ESCROW-STATE = 4
+
+abbrev pub OPENED-AT : ℕ
+OPENED-AT = 5
+
+abbrev pub ESCROW-CLOSED-AT : ℕ
+ESCROW-CLOSED-AT = 6
+
+abbrev pub ESCROW-CLOSED-BY : ℕ
+ESCROW-CLOSED-BY = 7
+
+-- words of a receipt; the four hash words are its last
+abbrev pub PROVIDER : ℕ
+PROVIDER = 0
+
+abbrev pub REQUESTER : ℕ
+REQUESTER = 1
+
+abbrev pub RECEIPT-LINK : ℕ
+RECEIPT-LINK = 2
+
+abbrev pub ACCEPTANCE-DEADLINE : ℕ
+ACCEPTANCE-DEADLINE = 3
+
+abbrev pub AUTO-ACCEPT : ℕ
+AUTO-ACCEPT = 4
+
+abbrev pub RECEIPT-STATE : ℕ
+RECEIPT-STATE = 5
+
+abbrev pub CLAIMED-AT : ℕ
+CLAIMED-AT = 6
+
+abbrev pub RECEIPT-CLOSED-AT : ℕ
+RECEIPT-CLOSED-AT = 7
+
+abbrev pub RECEIPT-CLOSED-BY : ℕ
+RECEIPT-CLOSED-BY = 8
+
+abbrev pub RELEASE-CODE : ℕ
+RELEASE-CODE = 9
+
+-- words of a journal row
+abbrev pub SIGNER : ℕ
+SIGNER = 0
+
+abbrev pub NONCE : ℕ
+NONCE = 1
+
+abbrev pub OPERATION : ℕ
+OPERATION = 2
+
+abbrev pub TARGET : ℕ
+TARGET = 3
+
+abbrev pub ENTRY-AMOUNT : ℕ
+ENTRY-AMOUNT = 4
+
+abbrev pub SETTLED-AT : ℕ
+SETTLED-AT = 5
+
+abbrev pub ANSWER-WORD : ℕ
+ANSWER-WORD = 6
+
+abbrev pub ENTRY-LINK : ℕ
+ENTRY-LINK = 7
+
+-- operations
+abbrev pub GRANT : ℕ
+GRANT = 1
+
+abbrev pub TRANSFER : ℕ
+TRANSFER = 2
+
+abbrev pub OPEN : ℕ
+OPEN = 3
+
+abbrev pub RELEASE : ℕ
+RELEASE = 4
+
+abbrev pub REFUND : ℕ
+REFUND = 5
+
+abbrev pub CLAIM : ℕ
+CLAIM = 6
+
+abbrev pub ACCEPT : ℕ
+ACCEPT = 7
+
+abbrev pub DISPUTE : ℕ
+DISPUTE = 8
+
+abbrev pub SWEEP : ℕ
+SWEEP = 9
+
+abbrev pub FREEZE : ℕ
+FREEZE = 10
+
+abbrev pub CAPS : ℕ
+CAPS = 11
+
+-- bits of the flags
+abbrev pub SIGNATURE-HELD : ℕ
+SIGNATURE-HELD = 0
+
+abbrev pub ADMIN : ℕ
+ADMIN = 1
+
+abbrev pub AUTO-OR-FREEZE : ℕ
+AUTO-OR-FREEZE = 2
+
+abbrev pub REASON-GIVEN : ℕ
+REASON-GIVEN = 3
+
+-- states of an escrow
+abbrev pub IS-OPEN : ℕ
+IS-OPEN = 1
+
+abbrev pub RELEASED : ℕ
+RELEASED = 2
+
+abbrev pub REFUNDED : ℕ
+REFUNDED = 3
+
+abbrev pub EXPIRED : ℕ
+EXPIRED = 4
+
+-- states of a receipt
+abbrev pub PENDING : ℕ
+PENDING = 1
+
+abbrev pub ACCEPTED : ℕ
+ACCEPTED = 2
+
+abbrev pub DISPUTED : ℕ
+DISPUTED = 3
+
+abbrev pub LAPSED : ℕ
+LAPSED = 4
+
+-- what a receipt stores where its escrow could not be released
+abbrev pub RELEASE-IMPOSSIBLE : ℕ
+RELEASE-IMPOSSIBLE = 29

@@ -1,0 +1,42 @@
+-- Section "Row lookups": that very row of the caller's table, or an empty part; the search for a wallet.
+use mathlib.Core.List.{List, []}
+use mathlib.Core.Bool.{Bool, not, cond, _&&_}
+use Prim.Native.Nat.{ℕ, _+_, _-_, _*_}
+use lib.ListN.{getD, length, take, drop}
+use lib.Dec.{eqb, ltb, leb}
+use Rattle.rules.specs.Limits.{WALLET-LEN, RECEIPT-LEN, MAX-WALLETS, MAX-ESCROWS, MAX-RECEIPTS, WALLETS, ESCROWS, RECEIPTS}
+use Rattle.rules.specs.Table.{rowsIn, tableRight}
+use Rattle.rules.specs.Ledger.{Edition, rowOf, written}
+
+-- the header and the table have right lengths, and the count in the header's word c is within the table
+abbrev pub countRight : ℕ → ℕ → ℕ → ℕ → List ℕ → List ℕ → Bool
+countRight headerLen c len most header t =
+    eqb (length header) headerLen && (tableRight len most t && leb (getD header c 0) (rowsIn len t))
+
+-- where row `number` starts in the table, in words; the table's length where there is no such row
+unfoldable pub rowPlace : ℕ → ℕ → ℕ → ℕ → List ℕ → List ℕ → ℕ → ℕ
+rowPlace headerLen c len most header t number =
+    cond (countRight headerLen c len most header t && written (getD header c 0) number) ((number - 1) * len) (length t)
+
+-- the words from a place on, len of them at most: none at the table's end
+abbrev pub partAt : ℕ → List ℕ → ℕ → List ℕ
+partAt len t place = take len (drop place t)
+
+abbrev pub escrowPlace : Edition → List ℕ → List ℕ → ℕ → ℕ
+escrowPlace e header escrows number = rowPlace (e .headerLen) ESCROWS (e .escrowLen) MAX-ESCROWS header escrows number
+
+abbrev pub receiptPlace : Edition → List ℕ → List ℕ → ℕ → ℕ
+receiptPlace e header receipts number = rowPlace (e .headerLen) RECEIPTS RECEIPT-LEN MAX-RECEIPTS header receipts number
+
+abbrev pub escrowPart : Edition → List ℕ → List ℕ → ℕ → List ℕ
+escrowPart e header escrows number = partAt (e .escrowLen) escrows (escrowPlace e header escrows number)
+
+abbrev pub receiptPart : Edition → List ℕ → List ℕ → ℕ → List ℕ
+receiptPart e header receipts number = partAt RECEIPT-LEN receipts (receiptPlace e header receipts number)
+
+-- the number of the first written row with the id; 0 if there is none, the id is 0, or a length or the count is wrong
+unfoldable pub walletNumber : Edition → List ℕ → List ℕ → ℕ → ℕ
+walletNumber e header wallets id =
+    let n = getD header WALLETS 0 in
+    cond (countRight (e .headerLen) WALLETS WALLET-LEN MAX-WALLETS header wallets && (not (eqb id 0) && ltb (rowOf wallets n id) n))
+    (rowOf wallets n id + 1) 0

@@ -1,0 +1,102 @@
+// The submission and the answers, as every crate and the host know them; the named limits and columns; the status of an answer.
+ghost use mathlib.Core.Path.{_≡_};
+ghost use Rattle.rules.specs.Status.{statusOf};
+
+// The fields of a submission record. `op` and `flags` are the record's own bytes.
+#[repr(C)]
+pub struct Submission {
+    pub op: u8,
+    pub flags: u8,
+    pub now: u64,
+    pub signer: u64,
+    pub nonce: u64,
+    pub issued: u64,
+    pub expires: u64,
+    pub target: u64,
+    pub amount: u64,
+    pub until: u64,
+    pub link: u64,
+    pub hash0: u64,
+    pub hash1: u64,
+    pub hash2: u64,
+    pub hash3: u64,
+}
+
+// What reading a record finds: 0 and its fields, or 3 and zeros.
+#[repr(C)]
+pub struct Read {
+    pub number: u64,
+    pub submission: Submission,
+}
+
+// The answer to a submission.
+#[repr(C)]
+pub struct Answer {
+    pub number: u64,
+    pub word: u64,
+}
+
+// The number of a row, counted from 1; 0 is no row. They are types of their own, so that none is taken for another.
+#[repr(C)]
+pub struct WalletNumber(pub u64);
+
+#[repr(C)]
+pub struct EscrowNumber(pub u64);
+
+#[repr(C)]
+pub struct ReceiptNumber(pub u64);
+
+const STATUSES: [u64; 41] = [
+    200,
+    500,
+    500,
+    400,
+    409,
+    503,
+    400,
+    403,
+    400,
+    400,
+    400,
+    409,
+    400,
+    404,
+    403,
+    400,
+    404,
+    402,
+    400,
+    429,
+    400,
+    400,
+    404,
+    404,
+    400,
+    400,
+    400,
+    404,
+    403,
+    409,
+    400,
+    400,
+    404,
+    403,
+    409,
+    400,
+    409,
+    507,
+    507,
+    507,
+    507,
+];
+
+// The status of an answer; any other number has 500.
+pub fn status(number: u64) -> u64
+    ensures { λ r. ⌜ r ≡ statusOf number ⌝ }
+{
+    if number <= 40 {
+        STATUSES[number as usize]
+    } else {
+        500
+    }
+}
