@@ -2,6 +2,8 @@
 ghost use mathlib.Core.Path.{_≡_};
 ghost use Rattle.rules.specs.Status.{statusOf};
 
+pub mod limits;
+
 // The fields of a submission record. `op` and `flags` are the record's own bytes.
 #[repr(C)]
 pub struct Submission {
