@@ -1,4 +1,5 @@
-//! The archive's entry points, and the only `unsafe` code of this crate.
+//! The archive's entry points as they are, numbers in and numbers out, and the only `unsafe` code of
+//! this crate. The functions here are safe; the rest of the crate gives names to the numbers.
 //!
 //! A slice crosses as two arguments, its pointer and then its number of elements; structs cross by
 //! value. The declarations are the shapes that the archive exports. Each call is total: the
@@ -12,17 +13,21 @@ use crate::tables::Tables;
 
 /// What `milebeacon_submit` answers.
 #[repr(C)]
-#[derive(Clone, Copy)]
-pub(crate) struct Answer {
+#[derive(Clone, Copy, Debug, PartialEq, Eq)]
+pub struct Answer {
+    /// 0 if settled, else the refusal's number.
     pub number: u64,
+    /// The answer word; 0 for a refusal.
     pub word: u64,
 }
 
 /// What `milebeacon_read` answers.
 #[repr(C)]
-#[derive(Clone, Copy)]
-pub(crate) struct Read {
+#[derive(Clone, Copy, Debug, PartialEq, Eq)]
+pub struct Read {
+    /// 0, or 3 for a malformed record.
     pub number: u64,
+    /// The fields; all 0 for a malformed record.
     pub submission: Submission,
 }
 
@@ -83,7 +88,8 @@ extern "C" {
     ) -> usize;
 }
 
-pub(crate) fn submit(lent: Tables<&mut [u64]>, record: &[u8]) -> Answer {
+/// Settles the record on the lent tables, or refuses it and changes nothing.
+pub fn submit(lent: Tables<&mut [u64]>, record: &[u8]) -> Answer {
     // SAFETY: each pointer and count are those of a live slice. The five tables are borrowed
     // mutably, so none overlaps another or the record; the archive reads and writes within them
     // only, and keeps none of them.
@@ -105,7 +111,8 @@ pub(crate) fn submit(lent: Tables<&mut [u64]>, record: &[u8]) -> Answer {
     }
 }
 
-pub(crate) fn fresh(lent: Tables<&mut [u64]>) -> u64 {
+/// Starts the lent tables afresh: 0, or 1 for a wrong length.
+pub fn fresh(lent: Tables<&mut [u64]>) -> u64 {
     // SAFETY: as for `submit`; there is no record.
     unsafe {
         milebeacon_fresh(
@@ -123,24 +130,28 @@ pub(crate) fn fresh(lent: Tables<&mut [u64]>) -> u64 {
     }
 }
 
-pub(crate) fn read(record: &[u8]) -> Read {
+/// The fields of a record.
+pub fn read(record: &[u8]) -> Read {
     // SAFETY: the pointer and count are those of a live slice, which is only read. Every value of
     // the returned struct is a number.
     unsafe { milebeacon_read(record.as_ptr(), record.len()) }
 }
 
-pub(crate) fn write(submission: Submission, out: &mut [u8]) -> u64 {
+/// Writes the record of these fields: 0, or 3 and `out` stays.
+pub fn write(submission: Submission, out: &mut [u8]) -> u64 {
     // SAFETY: the pointer and count are those of a live slice that is borrowed mutably; the archive
     // writes within it only.
     unsafe { milebeacon_write(submission, out.as_mut_ptr(), out.len()) }
 }
 
-pub(crate) fn status(number: u64) -> u64 {
+/// The status of an answer's number.
+pub fn status(number: u64) -> u64 {
     // SAFETY: a number in, a number out.
     unsafe { milebeacon_status(number) }
 }
 
-pub(crate) fn wallet_row(header: &[u64], wallets: &[u64], id: u64) -> u64 {
+/// The number of the first wallet row with this id, or 0.
+pub fn wallet_row(header: &[u64], wallets: &[u64], id: u64) -> u64 {
     // SAFETY: each pointer and count are those of a live slice, which is only read.
     unsafe {
         milebeacon_wallet_row(
@@ -153,7 +164,8 @@ pub(crate) fn wallet_row(header: &[u64], wallets: &[u64], id: u64) -> u64 {
     }
 }
 
-pub(crate) fn escrow_place(header: &[u64], escrows: &[u64], number: EscrowNumber) -> usize {
+/// Where the escrow's row starts in the table, in words, or the table's length if there is none.
+pub fn escrow_place(header: &[u64], escrows: &[u64], number: EscrowNumber) -> usize {
     // SAFETY: each pointer and count are those of a live slice, which is only read.
     unsafe {
         milebeacon_escrow_place(
@@ -166,7 +178,8 @@ pub(crate) fn escrow_place(header: &[u64], escrows: &[u64], number: EscrowNumber
     }
 }
 
-pub(crate) fn receipt_place(header: &[u64], receipts: &[u64], number: ReceiptNumber) -> usize {
+/// Where the receipt's row starts in the table, in words, or the table's length if there is none.
+pub fn receipt_place(header: &[u64], receipts: &[u64], number: ReceiptNumber) -> usize {
     // SAFETY: each pointer and count are those of a live slice, which is only read.
     unsafe {
         milebeacon_receipt_place(

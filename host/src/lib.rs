@@ -33,7 +33,7 @@
 
 mod answer;
 mod envelope;
-mod ffi;
+pub mod ffi;
 mod ledger;
 pub mod lookup;
 mod numbers;
