@@ -1,5 +1,5 @@
-//! The archive's entry points as they are, numbers in and numbers out, and the only `unsafe` code of
-//! this crate. The functions here are safe; the rest of the crate gives names to the numbers.
+//! The archive's entry points as they are, numbers in and numbers out, and the only `unsafe` code
+//! of this crate. The functions here are safe; the rest of the crate gives names to the numbers.
 //!
 //! A slice crosses as two arguments, its pointer and then its number of elements; structs cross by
 //! value. The declarations are the shapes that the archive exports. Each call is total: the

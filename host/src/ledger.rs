@@ -81,7 +81,8 @@ impl<T> Ledger<T> {
 }
 
 impl<T: AsRef<[u64]> + AsMut<[u64]>> Ledger<T> {
-    /// Starts the ledger afresh: nothing written, clock and granted total 0. Only the header changes.
+    /// Starts the ledger afresh: nothing written, clock and granted total 0. Only the header
+    /// changes.
     ///
     /// # Errors
     ///
@@ -111,8 +112,8 @@ impl<T: AsRef<[u64]> + AsMut<[u64]>> Ledger<T> {
 
     /// Whether the tables have right lengths and hold a sound ledger.
     ///
-    /// A ledger that was started afresh and changed by submissions only is always sound. Ask this of
-    /// tables that come from elsewhere, such as a file.
+    /// A ledger that was started afresh and changed by submissions only is always sound. Ask this
+    /// of tables that come from elsewhere, such as a file.
     pub fn is_sound(&mut self) -> bool {
         // The core refuses a malformed record as such only after it has found the ledger sound.
         self.submit(&[]) == Answer::Refused(Refusal::MalformedRecord)

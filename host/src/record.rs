@@ -37,8 +37,8 @@ impl Submission {
     ///
     /// # Errors
     ///
-    /// [`Refusal::MalformedRecord`] if the fields do not have the form of their operation or `out` is
-    /// not [`RECORD_BYTES`] long. Then `out` is as it was.
+    /// [`Refusal::MalformedRecord`] if the fields do not have the form of their operation or `out`
+    /// is not [`RECORD_BYTES`] long. Then `out` is as it was.
     pub fn write(&self, out: &mut [u8]) -> Result<(), Refusal> {
         accepted(ffi::write(*self, out))
     }

@@ -7,8 +7,8 @@ use crate::operation::Operation;
 /// The fields of a submission record.
 ///
 /// Make one by the function of its operation; it fills in what the operation uses and leaves the
-/// rest 0, as the rules ask. The fields are open, so that any record can be taken apart and changed:
-/// whether they have the form of their operation is decided when a record is
+/// rest 0, as the rules ask. The fields are open, so that any record can be taken apart and
+/// changed: whether they have the form of their operation is decided when a record is
 /// [written](Submission::to_record).
 ///
 /// ```
@@ -193,7 +193,8 @@ impl Submission {
         submission
     }
 
-    /// Sets the caps of the wallet `target`: for one payment, and for a day's transfers. Admins only.
+    /// Sets the caps of the wallet `target`: for one payment, and for a day's transfers. Admins
+    /// only.
     pub fn caps(envelope: Envelope, target: u64, per_transaction: u64, daily: u64) -> Submission {
         Submission {
             target,

@@ -1,5 +1,6 @@
 //! `differential [--seed S] [--submissions N]`: compares the core with the second program until N
-//! submissions are done, and prints which answers were reached. Without arguments it is the short run.
+//! submissions are done, and prints which answers were reached. Without arguments it is the short
+//! run.
 
 #![forbid(unsafe_code)]
 

@@ -4,8 +4,9 @@ use std::fmt;
 
 use milebeacon::Sizes;
 
+use crate::clauses::{Change, BREAKS, LIMITS};
 use crate::codec;
-use crate::damage::{lengthen, scatter, Change, BREAKS, LIMITS};
+use crate::damage::{lengthen, scatter};
 use crate::dice::Dice;
 use crate::history::{Begin, History};
 use crate::lookups;

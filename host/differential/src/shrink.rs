@@ -13,12 +13,18 @@ pub struct Small {
     pub found: Found,
 }
 
-fn difference(history: &History) -> Option<Found> {
-    history.play(&mut Tally::default()).err()
-}
+/// What is looked for in a history.
+pub type Test<'a> = &'a dyn Fn(&History) -> Option<Found>;
 
 /// Leaves out steps and makes the others plainer, as long as some difference is found.
 pub fn shrink(history: &History, found: Found) -> Small {
+    shrink_by(history, found, &|history| {
+        history.play(&mut Tally::default()).err()
+    })
+}
+
+/// The same as long as the test finds something.
+pub fn shrink_by(history: &History, found: Found, test: Test<'_>) -> Small {
     let mut small = Small {
         history: history.clone(),
         found,
@@ -26,21 +32,21 @@ pub fn shrink(history: &History, found: Found) -> Small {
     cut(&mut small);
     loop {
         let before = small.history.clone();
-        fewer_steps(&mut small);
-        plainer_steps(&mut small);
-        plainer_start(&mut small);
+        fewer_steps(&mut small, test);
+        plainer_steps(&mut small, test);
+        plainer_start(&mut small, test);
         if small.history == before {
             return small;
         }
     }
 }
 
-/// Takes the candidate if it shows a difference too.
-fn adopt(small: &mut Small, candidate: History) -> bool {
+/// Takes the candidate if something is found in it too.
+fn adopt(small: &mut Small, candidate: History, test: Test<'_>) -> bool {
     if candidate == small.history {
         return false;
     }
-    match difference(&candidate) {
+    match test(&candidate) {
         Some(found) => {
             *small = Small {
                 history: candidate,
@@ -58,7 +64,7 @@ fn cut(small: &mut Small) {
     small.history.steps.truncate(small.found.step + 1);
 }
 
-fn fewer_steps(small: &mut Small) {
+fn fewer_steps(small: &mut Small, test: Test<'_>) {
     let mut width = small.history.steps.len();
     while width > 0 {
         let mut from = 0;
@@ -66,15 +72,16 @@ fn fewer_steps(small: &mut Small) {
             let mut candidate = small.history.clone();
             let until = (from + width).min(candidate.steps.len());
             candidate.steps.drain(from..until);
-            if !adopt(small, candidate) {
-                from += width;
+            if !adopt(small, candidate, test) {
+                // overlapping, as steps may cancel out that do not stand at a multiple
+                from += (width / 2).max(1);
             }
         }
         width /= 2;
     }
 }
 
-fn plainer_steps(small: &mut Small) {
+fn plainer_steps(small: &mut Small, test: Test<'_>) {
     let plainer: [fn(&mut Step); 12] = [
         |step| step.damage = 0,
         |step| step.tick = 0,
@@ -94,19 +101,25 @@ fn plainer_steps(small: &mut Small) {
             let mut candidate = small.history.clone();
             if let Some(step) = candidate.steps.get_mut(place) {
                 change(step);
-                adopt(small, candidate);
+                adopt(small, candidate, test);
             }
         }
     }
 }
 
-fn plainer_start(small: &mut Small) {
-    for begin in [Begin::Fresh, Begin::Lent] {
+fn plainer_start(small: &mut Small, test: Test<'_>) {
+    // only ever towards a fresh start, or this would go round and round
+    let plainer: &[Begin] = match small.history.begin {
+        Begin::Fresh => &[],
+        Begin::Lent => &[Begin::Fresh],
+        Begin::NearlyFull => &[Begin::Fresh, Begin::Lent],
+    };
+    for &begin in plainer {
         let candidate = History {
             begin,
             ..small.history.clone()
         };
-        if adopt(small, candidate) {
+        if adopt(small, candidate, test) {
             break;
         }
     }
@@ -114,7 +127,7 @@ fn plainer_start(small: &mut Small) {
         seed: 0,
         ..small.history.clone()
     };
-    adopt(small, candidate);
+    adopt(small, candidate, test);
 }
 
 impl Small {

@@ -1,8 +1,8 @@
 //! One step of a history: a few small numbers that, with the tables as they stand, make a record.
 //!
 //! A step does not hold a record but says how to make one, so that steps can be left out or made
-//! plainer and those that follow still mean something. In every knob 0 is the plain choice, one that
-//! would settle where it can; the others lie at a limit of the rules or one beyond. So a small
+//! plainer and those that follow still mean something. In every knob 0 is the plain choice, one
+//! that would settle where it can; the others lie at a limit of the rules or one beyond. So a small
 //! example of a difference shows what matters in it: the knobs that are not 0.
 
 use milebeacon::Submission;
@@ -22,7 +22,8 @@ pub const MOST_GRANTED: u64 = 1_000_000_000_000_000_000;
 /// One step.
 #[derive(Clone, Copy, Debug, Default, PartialEq, Eq)]
 pub struct Step {
-    /// 0 to 10: the operations 1 to 11. 11 submits the last record again, 12 does so with a new clock.
+    /// 0 to 10: the operations 1 to 11. 11 submits the last record again, 12 does so with a new
+    /// clock.
     pub op: u8,
     /// How far the clock moves, or to which row's moment.
     pub tick: u8,
