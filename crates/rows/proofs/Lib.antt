@@ -1,0 +1,2 @@
+-- Laws that the functions over rows rest on.
+pub mod Laws
