@@ -1,0 +1,3 @@
+-- What the checks are given, and the daily sum over a journal by itself.
+pub mod Ready
+pub mod Counted
