@@ -1,2 +1,5 @@
 -- Laws of the checks.
 pub mod Whole
+pub mod Families
+pub mod Small
+pub mod Picks
