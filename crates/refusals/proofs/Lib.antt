@@ -3,3 +3,5 @@ pub mod Whole
 pub mod Families
 pub mod Small
 pub mod Picks
+pub mod Given
+pub mod Order
