@@ -18,7 +18,8 @@ use Rattle.rules.specs.declared.Submission.{Submission}
 use Rattle.rules.proofs.Bools.{all-at, and-snd}
 use Rattle.rules.proofs.Counts.{every-at}
 use Rattle.rules.proofs.Rows.{rows-fit}
-use Rattle.refusals.specs.Ready.{Ready, Counts, WalletsFit, Entries}
+use Rattle.payments.specs.Entries.{Entries}
+use Rattle.refusals.specs.Ready.{Ready}
 
 module _ (h w e r j : List ℕ) (s : Submission) (given : Ready (ledger h w e r j) s) where
   abbrev L : Ledger
@@ -45,16 +46,19 @@ module _ (h w e r j : List ℕ) (s : Submission) (given : Ready (ledger h w e r 
       le-trans (leb-true n (rowsIn len t) p)
       (leb-true (rowsIn len t) most (all-at (leb len (length t) ∷ eqb (length t % len) 0 ∷ leb (rowsIn len t) most ∷ []) q 2))
 
-  pub counts : Counts h
-  counts = record {
-    words = omega (arith, eqb-true (length h) 8 (length-test 0));
-    wallets = count-low _ _ _ w (header-test 3) (length-test 1);
-    escrows = count-low _ _ _ e (header-test 4) (length-test 2);
-    receipts = count-low _ _ _ r (header-test 5) (length-test 3);
-    entries = count-low _ _ _ j (header-test 6) (length-test 4);
-  }
+  pub header-there : ENTRIES < length h
+  header-there = omega (arith, eqb-true (length h) 8 (length-test 0))
 
-  pub wallets-fit : WalletsFit h w
+  pub wallets-few : getD h WALLETS 0 ≤ MAX-WALLETS
+  wallets-few = count-low _ _ _ w (header-test 3) (length-test 1)
+
+  pub escrows-few : getD h ESCROWS 0 ≤ MAX-ESCROWS
+  escrows-few = count-low _ _ _ e (header-test 4) (length-test 2)
+
+  pub receipts-few : getD h RECEIPTS 0 ≤ MAX-RECEIPTS
+  receipts-few = count-low _ _ _ r (header-test 5) (length-test 3)
+
+  pub wallets-fit : getD h WALLETS 0 * WALLET-LEN ≤ length w
   wallets-fit = rows-fit WALLET-LEN (getD h WALLETS 0) w (leb-true _ _ (header-test 3))
 
   pub journal-fit : getD h ENTRIES 0 * JOURNAL-LEN ≤ length j
@@ -71,7 +75,7 @@ module _ (h w e r j : List ℕ) (s : Submission) (given : Ready (ledger h w e r 
   pub entries : Entries j (getD h ENTRIES 0)
   entries = record {
     fit = journal-fit;
-    few = counts .entries;
+    few = count-low _ _ _ j (header-test 6) (length-test 4);
     times = λ i l. leb-true _ _ (entry-test i l 0);
     amounts = λ i l o. transfer-amount _ _ o (entry-test i l 1);
   }

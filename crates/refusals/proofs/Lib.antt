@@ -1,7 +1,4 @@
--- Laws of the checks.
-pub mod Whole
-pub mod Families
-pub mod Small
-pub mod Picks
+-- Laws of what the checks are given, of the groups that stand here, and of their order.
 pub mod Given
+pub mod Others
 pub mod Order

@@ -1,4 +1,2 @@
--- What the checks are given, the daily sum over a journal by itself, and the row that a number names.
+-- What the checks are given.
 pub mod Ready
-pub mod Counted
-pub mod Named

@@ -1,11 +1,11 @@
 // Checks 12, 16 and 40 of the operations that move no credits by themselves: sweep, freeze and caps.
 ghost use mathlib.Core.Path.{_≡_};
 ghost use mathlib.Core.List.{List};
-ghost use Prim.Native.Nat.{ℕ};
-ghost use Rattle.rules.specs.Limits.{SWEEP, FREEZE, CAPS};
+ghost use Prim.Native.Nat.{ℕ, _*_, _≤_, _<_};
+ghost use lib.ListN.{getD, length};
+ghost use Rattle.rules.specs.Limits.{WALLET-LEN, WALLETS, ENTRIES, SWEEP, FREEZE, CAPS};
 ghost use Rattle.rules.specs.Ledger.{Ledger, ledger};
 ghost use Rattle.rules.specs.Refusals.{first, operationRefusals};
-ghost use Rattle.refusals.specs.Ready.{Counts, WalletsFit};
 use rules::Submission;
 use rules::limits::ENTRIES;
 use rules::limits::JOURNAL_LEN;
@@ -24,7 +24,7 @@ pub fn sweep_refusal(s: Submission) -> u64
 
 // A freeze: checks 16, 40. Target 0 is the system.
 pub fn freeze_refusal(header: &[u64], wallets: &[u64], journal: &[u64], s: Submission) -> u64
-    requires { ⌜ Counts (now header) × WalletsFit (now header) (now wallets) × (s .op ≡ FREEZE) ⌝ }
+    requires { ⌜ (ENTRIES < length (now header)) × (getD (now header) WALLETS 0 * WALLET-LEN ≤ length (now wallets)) × (s .op ≡ FREEZE) ⌝ }
     ensures { λ x. ⌜ ((e r : List ℕ) → x ≡ first (operationRefusals (ledger (now (header .entry)) (now (wallets .entry)) e r (now (journal .entry))) s)) ⌝ }
 {
     let count = header[WALLETS] as usize;
@@ -38,7 +38,7 @@ pub fn freeze_refusal(header: &[u64], wallets: &[u64], journal: &[u64], s: Submi
 
 // New caps: checks 12, 16, 40.
 pub fn caps_refusal(header: &[u64], wallets: &[u64], journal: &[u64], s: Submission) -> u64
-    requires { ⌜ Counts (now header) × WalletsFit (now header) (now wallets) × (s .op ≡ CAPS) ⌝ }
+    requires { ⌜ (ENTRIES < length (now header)) × (getD (now header) WALLETS 0 * WALLET-LEN ≤ length (now wallets)) × (s .op ≡ CAPS) ⌝ }
     ensures { λ x. ⌜ ((e r : List ℕ) → x ≡ first (operationRefusals (ledger (now (header .entry)) (now (wallets .entry)) e r (now (journal .entry))) s)) ⌝ }
 {
     let count = header[WALLETS] as usize;

@@ -19,10 +19,6 @@ use rules::limits::SWEEP;
 use rules::limits::TRANSFER;
 
 mod admin;
-mod credits;
-mod holds;
-mod sums;
-
 // Checks 12 to 40, by the operation.
 fn operation_refusal(
     header: &[u64],
@@ -37,8 +33,8 @@ fn operation_refusal(
 {
     let op = s.op;
     match op {
-        GRANT => credits::grant_refusal(header, wallets, journal, s),
-        TRANSFER | OPEN => credits::paying_refusal(header, wallets, escrows, journal, s),
+        GRANT => payments::grant_refusal(header, wallets, journal, s),
+        TRANSFER | OPEN => payments::paying_refusal(header, wallets, escrows, journal, s),
         RELEASE | REFUND => holds::closing_refusal(header, escrows, journal, s),
         CLAIM => holds::claim_refusal(header, wallets, escrows, receipts, journal, s),
         ACCEPT | DISPUTE => holds::reply_refusal(header, receipts, journal, s),

@@ -1,5 +1,5 @@
 -- `refusal` meets its contract: the envelope's refusal, or if there is none the operation's.
-use Rattle.refusals.proofs.Given.{counts, journal-fit, op-low, op-high, now-time, issued-time}
+use Rattle.refusals.proofs.Given.{header-there, journal-fit, op-low, op-high, now-time, issued-time}
 use Rattle.refusals.proofs.Order.{by-envelope, by-operation}
 use borrow.Author.Needs.{needs}
 use Rattle.refusals.proofs.refusal.Statement.{statement}
@@ -10,7 +10,7 @@ use Rattle.envelope.proofs.envelope_refusal.Reads as envelope-refusal-reads
 use Rattle.refusals.proofs.operation_refusal.Reads as operation-refusal-reads
 
 envelope-refusal-requires : tie.Need-envelope-refusal-requires
-envelope-refusal-requires c κs = (counts _ _ _ _ _ _ (c .before .before .before .before .before .pre) .words, journal-fit _ _ _ _ _ _ (c .before .before .before .before .before .pre), op-low _ _ _ _ _ _ (c .before .before .before .before .before .pre), op-high _ _ _ _ _ _ (c .before .before .before .before .before .pre), now-time _ _ _ _ _ _ (c .before .before .before .before .before .pre), issued-time _ _ _ _ _ _ (c .before .before .before .before .before .pre))
+envelope-refusal-requires c κs = (header-there _ _ _ _ _ _ (c .before .before .before .before .before .pre), journal-fit _ _ _ _ _ _ (c .before .before .before .before .before .pre), op-low _ _ _ _ _ _ (c .before .before .before .before .before .pre), op-high _ _ _ _ _ _ (c .before .before .before .before .before .pre), now-time _ _ _ _ _ _ (c .before .before .before .before .before .pre), issued-time _ _ _ _ _ _ (c .before .before .before .before .before .pre))
 
 returns : tie.Need-returns
 returns c = by-envelope _ _ _ (c .before .envelope-refusal .ensures _ _ _) (c .if1 .taken)

@@ -1,5 +1,5 @@
 -- `admin::caps_refusal` meets its contract.
-use Rattle.refusals.proofs.Picks.{caps-by}
+use Rattle.refusals.proofs.Others.{caps-by}
 use borrow.Author.Needs.{needs}
 use Rattle.refusals.proofs.admin.caps_refusal.Statement.{statement}
 use Rattle.refusals.proofs.admin.caps_refusal.Tie as tie

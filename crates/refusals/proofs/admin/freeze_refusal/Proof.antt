@@ -1,5 +1,5 @@
 -- `admin::freeze_refusal` meets its contract.
-use Rattle.refusals.proofs.Picks.{freeze-by}
+use Rattle.refusals.proofs.Others.{freeze-by}
 use borrow.Author.Needs.{needs}
 use Rattle.refusals.proofs.admin.freeze_refusal.Statement.{statement}
 use Rattle.refusals.proofs.admin.freeze_refusal.Tie as tie

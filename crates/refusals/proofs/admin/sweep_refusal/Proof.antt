@@ -1,5 +1,5 @@
 -- `admin::sweep_refusal` meets its contract.
-use Rattle.refusals.proofs.Picks.{sweep-by}
+use Rattle.refusals.proofs.Others.{sweep-by}
 use borrow.Author.Needs.{needs}
 use Rattle.refusals.proofs.admin.sweep_refusal.Statement.{statement}
 use Rattle.refusals.proofs.admin.sweep_refusal.Tie as tie
