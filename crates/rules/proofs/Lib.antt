@@ -5,3 +5,5 @@ pub mod Counts
 pub mod Seek
 pub mod Below
 pub mod Cases
+-- the refusals, the replay guard, the sweep, and that sound stays
+pub mod Refused
