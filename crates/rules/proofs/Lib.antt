@@ -7,3 +7,4 @@ pub mod Below
 pub mod Cases
 -- the refusals, the replay guard, the sweep, and that sound stays
 pub mod Refused
+pub mod Calls
