@@ -4,4 +4,6 @@ pub mod Rows
 pub mod Counts
 pub mod Seek
 pub mod Below
+pub mod Accounts
+pub mod Moves
 pub mod Cases
