@@ -64,7 +64,7 @@ pub distinct-says : (t : List ℕ) (n : ℕ) → distinct n (λ i. word t WALLET
 unfolding rowOf
 distinct-says t n h i l =
     let d : every i (λ j. not (eqb (word t WALLET-LEN j ID) (word t WALLET-LEN i ID))) ≡ true =
-        every-at n (λ i. every i (λ j. not (eqb (word t WALLET-LEN j ID) (word t WALLET-LEN i ID)))) h i l in
+    every-at n (λ i. every i (λ j. not (eqb (word t WALLET-LEN j ID) (word t WALLET-LEN i ID)))) h i l in
     seek-at n (λ j. eqb (word t WALLET-LEN j ID) (word t WALLET-LEN i ID)) i l
     (λ j k. not-true _ (every-at i (λ j. not (eqb (word t WALLET-LEN j ID) (word t WALLET-LEN i ID))) d j k)) (eq-eqb (word t WALLET-LEN i ID) (word t WALLET-LEN i ID) refl)
 
@@ -72,12 +72,12 @@ pub distinct-test : (t : List ℕ) (n : ℕ) → Distinct t n → distinct n (λ
 distinct-test t n d =
     every-intro n _
     (λ i l. every-intro i _
-        (λ j k.
-            ap not
-            (ne-eqb (word t WALLET-LEN j ID) (word t WALLET-LEN i ID)
-            (λ e.
-                let r : j ≡ i = sym (d j (omega arith)) ∙ ap (rowOf t n) e ∙ d i l in
-                omega arith))))
+    (λ j k.
+    ap not
+    (ne-eqb (word t WALLET-LEN j ID) (word t WALLET-LEN i ID)
+    (λ e.
+    let r : j ≡ i = sym (d j (omega arith)) ∙ ap (rowOf t n) e ∙ d i l in
+    omega arith))))
 
 pub distinct-put : (t : List ℕ) (n i c x : ℕ) → c < WALLET-LEN → ID ≢ c → Distinct t n → Distinct (put t WALLET-LEN i c x) n
 distinct-put t n i c x c< c≢ d j h =
@@ -118,17 +118,17 @@ total-put t n i c x low high fits i< = go c low high
     go zero l h = absurd (omega arith)
     go (suc zero) l h =
         let a = sum-change n i
-            (λ j. word (put t WALLET-LEN i BALANCE x) WALLET-LEN j BALANCE + word (put t WALLET-LEN i BALANCE x) WALLET-LEN j LOCKED)
-            (λ j. word t WALLET-LEN j BALANCE + word t WALLET-LEN j LOCKED) i<
-            (λ j h ne. ap₂ _+_ (word-row t WALLET-LEN i BALANCE x j BALANCE (lit< tt) (lit< tt) ne) (word-row t WALLET-LEN i BALANCE x j LOCKED (lit< tt) (lit< tt) ne)) in
+        (λ j. word (put t WALLET-LEN i BALANCE x) WALLET-LEN j BALANCE + word (put t WALLET-LEN i BALANCE x) WALLET-LEN j LOCKED)
+        (λ j. word t WALLET-LEN j BALANCE + word t WALLET-LEN j LOCKED) i<
+        (λ j h ne. ap₂ _+_ (word-row t WALLET-LEN i BALANCE x j BALANCE (lit< tt) (lit< tt) ne) (word-row t WALLET-LEN i BALANCE x j LOCKED (lit< tt) (lit< tt) ne)) in
         let b : word (put t WALLET-LEN i BALANCE x) WALLET-LEN i BALANCE ≡ x = word-same t WALLET-LEN i BALANCE x (in-table WALLET-LEN n i BALANCE t fits i< (lit< tt)) in
         let d = word-col t WALLET-LEN i BALANCE x i LOCKED (lit< tt) (lit< tt) (omega arith) in
         omega arith
     go (suc (suc zero)) l h =
         let a = sum-change n i
-            (λ j. word (put t WALLET-LEN i LOCKED x) WALLET-LEN j BALANCE + word (put t WALLET-LEN i LOCKED x) WALLET-LEN j LOCKED)
-            (λ j. word t WALLET-LEN j BALANCE + word t WALLET-LEN j LOCKED) i<
-            (λ j h ne. ap₂ _+_ (word-row t WALLET-LEN i LOCKED x j BALANCE (lit< tt) (lit< tt) ne) (word-row t WALLET-LEN i LOCKED x j LOCKED (lit< tt) (lit< tt) ne)) in
+        (λ j. word (put t WALLET-LEN i LOCKED x) WALLET-LEN j BALANCE + word (put t WALLET-LEN i LOCKED x) WALLET-LEN j LOCKED)
+        (λ j. word t WALLET-LEN j BALANCE + word t WALLET-LEN j LOCKED) i<
+        (λ j h ne. ap₂ _+_ (word-row t WALLET-LEN i LOCKED x j BALANCE (lit< tt) (lit< tt) ne) (word-row t WALLET-LEN i LOCKED x j LOCKED (lit< tt) (lit< tt) ne)) in
         let b : word (put t WALLET-LEN i LOCKED x) WALLET-LEN i LOCKED ≡ x = word-same t WALLET-LEN i LOCKED x (in-table WALLET-LEN n i LOCKED t fits i< (lit< tt)) in
         let d = word-col t WALLET-LEN i LOCKED x i BALANCE (lit< tt) (lit< tt) (omega arith) in
         omega arith

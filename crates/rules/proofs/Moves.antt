@@ -34,9 +34,11 @@ module _ (t : List ℕ) (n c id a : ℕ) (c< : c < WALLET-LEN) (c≢ : ID ≢ c)
     where
       x : ℕ
       x = word t WALLET-LEN (rowOf t n id) c + a
+
       same : (b : Bool) → eqb v id ≡ b → cond b x (bal t n v c) ≡ bal t n v c + cond b a 0
       same true h = ap (λ (y : ℕ). y + a) (sym (ap (λ (u : ℕ). bal t n u c) (eqb-true v id h) ∙ bal-found t n id c found))
       same false h = omega arith
+
       go : (b : Bool) → eqb e c ≡ b → bal (up t n c id a) n v e ≡ bal t n v e + cond (b && eqb v id) a 0
       go true h =
           subst (λ (k : ℕ). bal (up t n c id a) n v k ≡ bal t n v k + cond (eqb v id) a 0) (sym (eqb-true e c h))
@@ -48,12 +50,14 @@ module _ (t : List ℕ) (n c id a : ℕ) (c< : c < WALLET-LEN) (c≢ : ID ≢ c)
     where
       x : ℕ
       x = word t WALLET-LEN (rowOf t n id) c - a
+
       same : (b : Bool) → eqb v id ≡ b → cond b x (bal t n v c) + cond b a 0 ≡ bal t n v c
       same true h =
           let f : bal t n id c ≡ word t WALLET-LEN (rowOf t n id) c = bal-found t n id c found in
           let g : bal t n v c ≡ bal t n id c = ap (λ (u : ℕ). bal t n u c) (eqb-true v id h) in
           omega (arith, enough, f, g)
       same false h = omega arith
+
       go : (b : Bool) → eqb e c ≡ b → bal (down t n c id a) n v e + cond (b && eqb v id) a 0 ≡ bal t n v e
       go true h =
           subst (λ (k : ℕ). bal (down t n c id a) n v k + cond (eqb v id) a 0 ≡ bal t n v k) (sym (eqb-true e c h))
@@ -158,27 +162,27 @@ and-false false = refl
 pub held-sum : (t : List ℕ) (len n i st y z v : ℕ) → 8 ≤ len → n * len ≤ length t → i < n
     → eqb (word t len i ESCROW-STATE) IS-OPEN ≡ true → eqb st IS-OPEN ≡ false
     → sum n (held-at (shut t len i ESCROW-STATE st ESCROW-CLOSED-AT y ESCROW-CLOSED-BY z) len v)
-        + cond (eqb (word t len i FROM) v) (word t len i ESCROW-AMOUNT) 0
-        ≡ sum n (held-at t len v)
+    + cond (eqb (word t len i FROM) v) (word t len i ESCROW-AMOUNT) 0
+    ≡ sum n (held-at t len v)
 held-sum t len n i st y z v wide fits i< open-i closed =
     let t′ : List ℕ = shut t len i ESCROW-STATE st ESCROW-CLOSED-AT y ESCROW-CLOSED-BY z in
     let c4 : ESCROW-STATE < len = omega arith in
     let c6 : ESCROW-CLOSED-AT < len = omega arith in
     let c7 : ESCROW-CLOSED-BY < len = omega arith in
     let st′ : word t′ len i ESCROW-STATE ≡ st =
-        shut-same t len i ESCROW-STATE st ESCROW-CLOSED-AT y ESCROW-CLOSED-BY z c4 c6 c7 (omega arith) (omega arith) (in-table len n i ESCROW-STATE t fits i< c4) in
+    shut-same t len i ESCROW-STATE st ESCROW-CLOSED-AT y ESCROW-CLOSED-BY z c4 c6 c7 (omega arith) (omega arith) (in-table len n i ESCROW-STATE t fits i< c4) in
     let other : (j k : ℕ) → k < 8 → j ≢ i → word t′ len j k ≡ word t len j k =
-        λ j k k< ne. shut-row t len i ESCROW-STATE st ESCROW-CLOSED-AT y ESCROW-CLOSED-BY z c4 c6 c7 j k (omega arith) ne in
+    λ j k k< ne. shut-row t len i ESCROW-STATE st ESCROW-CLOSED-AT y ESCROW-CLOSED-BY z c4 c6 c7 j k (omega arith) ne in
     let new : held-at t′ len v i ≡ 0 =
-        ap (λ (b : Bool). cond b (word t′ len i ESCROW-AMOUNT) 0)
-        (ap (λ (b : Bool). eqb (word t′ len i FROM) v && b) (ap (λ (s : ℕ). eqb s IS-OPEN) st′ ∙ closed) ∙ and-false (eqb (word t′ len i FROM) v)) in
+    ap (λ (b : Bool). cond b (word t′ len i ESCROW-AMOUNT) 0)
+    (ap (λ (b : Bool). eqb (word t′ len i FROM) v && b) (ap (λ (s : ℕ). eqb s IS-OPEN) st′ ∙ closed) ∙ and-false (eqb (word t′ len i FROM) v)) in
     let old : held-at t len v i ≡ cond (eqb (word t len i FROM) v) (word t len i ESCROW-AMOUNT) 0 =
-        ap (λ (b : Bool). cond b (word t len i ESCROW-AMOUNT) 0)
-        (ap (λ (b : Bool). eqb (word t len i FROM) v && b) open-i ∙ and-true (eqb (word t len i FROM) v)) in
+    ap (λ (b : Bool). cond b (word t len i ESCROW-AMOUNT) 0)
+    (ap (λ (b : Bool). eqb (word t len i FROM) v && b) open-i ∙ and-true (eqb (word t len i FROM) v)) in
     let ch : sum n (held-at t′ len v) + held-at t len v i ≡ sum n (held-at t len v) + held-at t′ len v i =
-        sum-change n i (held-at t′ len v) (held-at t len v) i<
-        (λ j h ne.
-            ap₂ (λ (b : Bool) (x : ℕ). cond b x 0)
-            (ap₂ (λ (x y : ℕ). eqb x v && eqb y IS-OPEN) (other j FROM (lit< tt) ne) (other j ESCROW-STATE (lit< tt) ne))
-            (other j ESCROW-AMOUNT (lit< tt) ne)) in
+    sum-change n i (held-at t′ len v) (held-at t len v) i<
+    (λ j h ne.
+    ap₂ (λ (b : Bool) (x : ℕ). cond b x 0)
+    (ap₂ (λ (x y : ℕ). eqb x v && eqb y IS-OPEN) (other j FROM (lit< tt) ne) (other j ESCROW-STATE (lit< tt) ne))
+    (other j ESCROW-AMOUNT (lit< tt) ne)) in
     omega arith
