@@ -4,6 +4,8 @@ pub mod Rows
 pub mod Counts
 pub mod Seek
 pub mod Below
+pub mod Accounts
+pub mod Moves
 pub mod Cases
 -- the refusals, the replay guard, the sweep, and that sound stays
 pub mod Refused
