@@ -12,19 +12,15 @@ use borrow.Author.Tests.{eqb-true, eqb-false, ltb-true, leb-true, eq-eqb, ne-eqb
 use Rattle.rules.specs.Ledger.{Ledger}
 use Rattle.rules.specs.Refusals.{Refusal, row, first, refusals, entryRefusals, envelopeRefusals, operationRefusals}
 use Rattle.rules.specs.Submit.{answerOf}
+use Rattle.rules.specs.Promises.{none, IsFirst}
 use Rattle.rules.specs.declared.Submission.{Submission}
 use Rattle.rules.specs.declared.Read.{Read}
-use Rattle.rules.proofs.Bools.{and-fst, and-snd, or-none-fst, or-none-snd, cond-case}
+use Rattle.rules.proofs.Bools.{and-fst, and-snd, not-true-false, cond-case}
 
 -- whether the row of number n holds
 abbrev pub holdsOf : List Refusal → ℕ → Bool
 holdsOf [] n = false
 holdsOf (r ∷ rs) n = cond (eqb (r .number) n) (r .holds) (holdsOf rs n)
-
--- whether any row holds
-abbrev pub anyHolds : List Refusal → Bool
-anyHolds [] = false
-anyHolds (r ∷ rs) = r .holds || anyHolds rs
 
 -- no row has the number 0, which says that none holds; none has one above high; the numbers rise from above low
 abbrev pub numbered : List Refusal → Bool
@@ -46,6 +42,9 @@ first-past r rs e = ap (λ (b : Bool). cond b (r .number) (first rs)) e
 pub first-here : (r : Refusal) (rs : List Refusal) → r .holds ≡ true → first (r ∷ rs) ≡ r .number
 first-here r rs e = ap (λ (b : Bool). cond b (r .number) (first rs)) e
 
+clear-here : (r : Refusal) (rs : List Refusal) → none (r ∷ rs) ≡ true → r .holds ≡ false
+clear-here r rs h = not-true-false (r .holds) (and-fst (not (r .holds)) (none rs) h)
+
 -- a group that refuses is the whole answer
 pub first-stop : (xs ys : List Refusal) → first xs ≢ 0 → first (xs ++ ys) ≡ first xs
 first-stop [] ys h = absurd (h refl)
@@ -56,66 +55,59 @@ first-stop (r ∷ xs) ys h = go (r .holds) refl (first-stop xs ys)
     go false e ih = first-past r (xs ++ ys) e ∙ ih (λ z. h (first-past r xs e ∙ z)) ∙ sym (first-past r xs e)
 
 -- one that does not leaves it to the next
-pub first-none : (xs ys : List Refusal) → anyHolds xs ≡ false → first (xs ++ ys) ≡ first ys
+pub first-none : (xs ys : List Refusal) → none xs ≡ true → first (xs ++ ys) ≡ first ys
 first-none [] ys h = refl
-first-none (r ∷ xs) ys h = first-past r (xs ++ ys) (or-none-fst (r .holds) (anyHolds xs) h) ∙ first-none xs ys (or-none-snd (r .holds) (anyHolds xs) h)
+first-none (r ∷ xs) ys h = first-past r (xs ++ ys) (clear-here r xs h) ∙ first-none xs ys (and-snd (not (r .holds)) (none xs) h)
 
 -- the answer is 0 exactly if no row holds
-pub none-of-zero : (rs : List Refusal) → numbered rs ≡ true → first rs ≡ 0 → anyHolds rs ≡ false
+pub none-of-zero : (rs : List Refusal) → numbered rs ≡ true → first rs ≡ 0 → none rs ≡ true
 none-of-zero [] h e = refl
 none-of-zero (r ∷ rs) h e = go (r .holds) refl (none-of-zero rs (and-snd (ltb 0 (r .number)) (numbered rs) h))
   where
-    go : (b : Bool) → r .holds ≡ b → (first rs ≡ 0 → anyHolds rs ≡ false) → r .holds || anyHolds rs ≡ false
+    go : (b : Bool) → r .holds ≡ b → (first rs ≡ 0 → none rs ≡ true) → not (r .holds) && none rs ≡ true
     go true x ih =
         let p : 0 < r .number = ltb-true 0 (r .number) (and-fst (ltb 0 (r .number)) (numbered rs) h) in
         absurd (omega (arith, sym (first-here r rs x) ∙ e))
-    go false x ih = ap (λ (b : Bool). b || anyHolds rs) x ∙ ih (sym (first-past r rs x) ∙ e)
+    go false x ih = ap (λ (b : Bool). not b && none rs) x ∙ ih (sym (first-past r rs x) ∙ e)
 
-pub zero-of-none : (rs : List Refusal) → anyHolds rs ≡ false → first rs ≡ 0
+pub zero-of-none : (rs : List Refusal) → none rs ≡ true → first rs ≡ 0
 zero-of-none [] h = refl
-zero-of-none (r ∷ rs) h = first-past r rs (or-none-fst (r .holds) (anyHolds rs) h) ∙ zero-of-none rs (or-none-snd (r .holds) (anyHolds rs) h)
+zero-of-none (r ∷ rs) h = first-past r rs (clear-here r rs h) ∙ zero-of-none rs (and-snd (not (r .holds)) (none rs) h)
 
 pub first-pass : (xs ys : List Refusal) → numbered xs ≡ true → first xs ≡ 0 → first (xs ++ ys) ≡ first ys
 first-pass xs ys n e = first-none xs ys (none-of-zero xs n e)
 
 -- no row holds: none of any number does
-pub none-by-number : (rs : List Refusal) → anyHolds rs ≡ false → (n : ℕ) → holdsOf rs n ≡ false
+pub none-by-number : (rs : List Refusal) → none rs ≡ true → (n : ℕ) → holdsOf rs n ≡ false
 none-by-number [] h n = refl
 none-by-number (r ∷ rs) h n =
-    cond-case (λ (b : Bool). b ≡ false) (eqb (r .number) n) (r .holds) (holdsOf rs n) (λ _. or-none-fst (r .holds) (anyHolds rs) h)
-    (λ _. none-by-number rs (or-none-snd (r .holds) (anyHolds rs) h) n)
+    cond-case (λ (b : Bool). b ≡ false) (eqb (r .number) n) (r .holds) (holdsOf rs n) (λ _. clear-here r rs h)
+    (λ _. none-by-number rs (and-snd (not (r .holds)) (none rs) h) n)
 
--- THE FIRST ROW THAT HOLDS: it has the number n, it holds, and none before it does
-pub record FirstOf (rs : List Refusal) (n : ℕ) : Type 0 where
-  pub before : List Refusal
-  pub here : Refusal
-  pub later : List Refusal
-  pub parts : rs ≡ before ++ (here ∷ later)
-  pub passed : anyHolds before ≡ false
-  pub holds : here .holds ≡ true
-  pub number : here .number ≡ n
-
-pub first-of : (rs : List Refusal) → first rs ≢ 0 → FirstOf rs (first rs)
+-- an answer that is not 0 is the number of the first row that holds
+pub first-of : (rs : List Refusal) → first rs ≢ 0 → IsFirst (first rs) rs
 first-of [] h = absurd (h refl)
 first-of (r ∷ rs) h = go (r .holds) refl (first-of rs)
   where
-    go : (b : Bool) → r .holds ≡ b → (first rs ≢ 0 → FirstOf rs (first rs)) → FirstOf (r ∷ rs) (first (r ∷ rs))
-    go true e ih = record { before = []; here = r; later = rs; parts = refl; passed = refl; holds = e; number = sym (first-here r rs e) }
+    go : (b : Bool) → r .holds ≡ b → (first rs ≢ 0 → IsFirst (first rs) rs) → IsFirst (first (r ∷ rs)) (r ∷ rs)
+    go true e ih = record {
+      before = [];
+      behind = rs;
+      parts = λ i. row (sym (first-here r rs e) i) (e i) ∷ rs;
+      passed = refl;
+    }
     go false e ih =
         let p = ih (λ z. h (first-past r rs e ∙ z)) in
         record {
           before = r ∷ (p .before);
-          here = p .here;
-          later = p .later;
-          parts = ap (λ (l : List Refusal). r ∷ l) (p .parts);
-          passed = ap (λ (b : Bool). b || anyHolds (p .before)) e ∙ p .passed;
-          holds = p .holds;
-          number = p .number ∙ sym (first-past r rs e);
+          behind = p .behind;
+          parts = ap (λ (l : List Refusal). r ∷ l) (p .parts) ∙ ap (λ (n : ℕ). r ∷ (p .before ++ (row n true ∷ p .behind))) (sym (first-past r rs e));
+          passed = ap (λ (b : Bool). not b && none (p .before)) e ∙ p .passed;
         }
 
-pub of-first : (rs : List Refusal) (n : ℕ) → FirstOf rs n → first rs ≡ n
-of-first rs n p =
-    ap first (p .parts) ∙ first-none (p .before) (p .here ∷ p .later) (p .passed) ∙ first-here (p .here) (p .later) (p .holds) ∙ p .number
+-- and only one number is
+pub of-first : (rs : List Refusal) (n : ℕ) → IsFirst n rs → first rs ≡ n
+of-first rs n p = ap first (p .parts) ∙ first-none (p .before) (row n true ∷ p .behind) (p .passed)
 
 pub first-most : (high : ℕ) (rs : List Refusal) → atMost high rs ≡ true → first rs ≤ high
 first-most high [] h = omega arith
