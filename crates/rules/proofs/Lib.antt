@@ -10,3 +10,4 @@ pub mod Cases
 -- the refusals, the replay guard, the sweep, and that sound stays
 pub mod Refused
 pub mod Calls
+pub mod Demand12
