@@ -11,3 +11,4 @@ pub mod Cases
 pub mod Refused
 pub mod Calls
 pub mod Demand12
+pub mod Keeps
