@@ -12,3 +12,6 @@ pub mod Refused
 pub mod Calls
 pub mod Demand12
 pub mod Keeps
+pub mod Lengths
+pub mod Replay
+pub mod Runs
