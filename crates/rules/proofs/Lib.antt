@@ -6,4 +6,5 @@ pub mod Seek
 pub mod Below
 pub mod Accounts
 pub mod Moves
+pub mod Good
 pub mod Cases
