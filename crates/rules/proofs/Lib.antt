@@ -8,3 +8,7 @@ pub mod Accounts
 pub mod Moves
 pub mod Good
 pub mod Cases
+-- the refusals, the replay guard, the sweep, and that sound stays
+pub mod Refused
+pub mod Calls
+pub mod Demand12
