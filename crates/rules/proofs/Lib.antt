@@ -6,6 +6,7 @@ pub mod Seek
 pub mod Below
 pub mod Accounts
 pub mod Moves
+pub mod Good
 pub mod Cases
 -- the refusals, the replay guard, the sweep, and that sound stays
 pub mod Refused

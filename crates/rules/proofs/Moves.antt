@@ -8,7 +8,7 @@ use Prim.Native.Nat.{ℕ, _+_, _-_, _*_, _≤_, _<_}
 use native.Mathlib.Omega.{arith}
 use lib.ListN.{length}
 use lib.Dec.{eqb, lit<}
-use borrow.Author.Tests.{eqb-true, eqb-false}
+use borrow.Author.Tests.{eqb-true, eqb-false, eq-eqb, ne-eqb}
 use Rattle.rules.specs.Limits.{WALLET-LEN, ID, BALANCE, LOCKED, FROM, ESCROW-AMOUNT, ESCROW-STATE, ESCROW-CLOSED-AT, ESCROW-CLOSED-BY, IS-OPEN}
 use Rattle.rules.specs.Table.{word, put, sum}
 use Rattle.rules.specs.Ledger.{rowOf}
@@ -158,11 +158,18 @@ pub and-false : (b : Bool) → b && false ≡ false
 and-false true = refl
 and-false false = refl
 
+pub eqb-sym : (a b : ℕ) → eqb a b ≡ eqb b a
+eqb-sym a b = go (eqb a b) refl
+  where
+    go : (c : Bool) → eqb a b ≡ c → c ≡ eqb b a
+    go true e = sym (eq-eqb b a (sym (eqb-true a b e)))
+    go false e = sym (ne-eqb b a (λ x. eqb-false a b e (sym x)))
+
 -- an open escrow is closed: its sender holds its amount less
 pub held-sum : (t : List ℕ) (len n i st y z v : ℕ) → 8 ≤ len → n * len ≤ length t → i < n
     → eqb (word t len i ESCROW-STATE) IS-OPEN ≡ true → eqb st IS-OPEN ≡ false
     → sum n (held-at (shut t len i ESCROW-STATE st ESCROW-CLOSED-AT y ESCROW-CLOSED-BY z) len v)
-    + cond (eqb (word t len i FROM) v) (word t len i ESCROW-AMOUNT) 0
+    + cond (eqb v (word t len i FROM)) (word t len i ESCROW-AMOUNT) 0
     ≡ sum n (held-at t len v)
 held-sum t len n i st y z v wide fits i< open-i closed =
     let t′ : List ℕ = shut t len i ESCROW-STATE st ESCROW-CLOSED-AT y ESCROW-CLOSED-BY z in
@@ -176,9 +183,9 @@ held-sum t len n i st y z v wide fits i< open-i closed =
     let new : held-at t′ len v i ≡ 0 =
     ap (λ (b : Bool). cond b (word t′ len i ESCROW-AMOUNT) 0)
     (ap (λ (b : Bool). eqb (word t′ len i FROM) v && b) (ap (λ (s : ℕ). eqb s IS-OPEN) st′ ∙ closed) ∙ and-false (eqb (word t′ len i FROM) v)) in
-    let old : held-at t len v i ≡ cond (eqb (word t len i FROM) v) (word t len i ESCROW-AMOUNT) 0 =
+    let old : held-at t len v i ≡ cond (eqb v (word t len i FROM)) (word t len i ESCROW-AMOUNT) 0 =
     ap (λ (b : Bool). cond b (word t len i ESCROW-AMOUNT) 0)
-    (ap (λ (b : Bool). eqb (word t len i FROM) v && b) open-i ∙ and-true (eqb (word t len i FROM) v)) in
+    (ap (λ (b : Bool). eqb (word t len i FROM) v && b) open-i ∙ and-true (eqb (word t len i FROM) v) ∙ eqb-sym (word t len i FROM) v) in
     let ch : sum n (held-at t′ len v) + held-at t len v i ≡ sum n (held-at t len v) + held-at t′ len v i =
     sum-change n i (held-at t′ len v) (held-at t len v) i<
     (λ j h ne.
