@@ -16,3 +16,4 @@ pub mod Keeps
 pub mod Lengths
 pub mod Replay
 pub mod Runs
+pub mod Turns
