@@ -17,3 +17,4 @@ pub mod Lengths
 pub mod Replay
 pub mod Runs
 pub mod Turns
+pub mod SweepPlan
