@@ -5,3 +5,5 @@ pub mod Counts
 pub mod Seek
 pub mod Below
 pub mod Cases
+pub mod Runs
+pub mod Answers
