@@ -1,58 +1,60 @@
--- From the code to the theorems: whatever list of results meets the contract of `ledger::submit`, each on the tables that the one before it
--- left, is a history of the definitions, so the theorems about histories speak of it.
-use mathlib.Core.Path.{_≡_, refl, sym, ap, ap₂, _∙_, subst, subst₂}
+-- From the code to the theorems: whatever a run of calls showed, each of them meeting the contract of `submit`, is what the definitions say of
+-- the same bytes. So the replay guard holds of the run.
+use mathlib.Core.Path.{_≡_, refl, sym, ap, ap₂, _∙_, subst}
 use mathlib.Core.Logic.{_≢_}
 use mathlib.Core.List.{List, [], _∷_, _++_}
 use Prim.Native.Nat.{ℕ}
 use Rattle.rules.specs.Ledger.{Ledger, Outcome, outcome}
 use Rattle.rules.specs.Record.{readOf}
 use Rattle.rules.specs.Submit.{submit}
-use Rattle.rules.specs.History.{Call, submits, Said, saidOf, after, said}
-use Rattle.rules.specs.Promises.{Result, Meets, lastOf, saidBy, started, Adds-up, The-books, Sound-always, Replay-guard, Runs-add-up, Runs-refuse-retries, Refused}
-use Rattle.rules.specs.Sound.{sound}
+use Rattle.rules.specs.History.{Call, submits, after, Said, saidOf, said}
+use Rattle.rules.specs.Promises.{Refused, Result, Meets, lastOf, saidBy, Runs-refuse-retries}
+use Rattle.rules.proofs.Replay.{replay-guard}
 
-abbrev pub callsOf : List Result → List Call
-callsOf [] = []
-callsOf (r ∷ rs) = submits (r .bytes) ∷ callsOf rs
+-- the submissions of a run
+abbrev pub submissions : List Result → List Call
+submissions [] = []
+submissions (r ∷ rs) = submits (r .bytes) ∷ submissions rs
 
--- the tables that a run leaves are those that the history leaves
-pub run-after : (L : Ledger) (rs : List Result) → Meets L rs → lastOf L rs ≡ after L (callsOf rs)
-run-after L [] m = refl
-run-after L (r ∷ rs) m = run-after (r .left) rs (m .1) ∙ ap (λ (K : Ledger). after K (callsOf rs)) (ap (λ (o : Outcome). o .left) (m .0))
+pub meets-after : (L : Ledger) (rs : List Result) → Meets L rs → lastOf L rs ≡ after L (submissions rs)
+meets-after L [] m = refl
+meets-after L (r ∷ rs) m = meets-after (r .left) rs (m .1) ∙ ap (λ (o : Outcome). after (o .left) (submissions rs)) (m .0)
 
--- and what a run said is what the history says
-pub run-said : (L : Ledger) (rs : List Result) → Meets L rs → saidBy rs ≡ said L (callsOf rs)
-run-said L [] m = refl
-run-said L (r ∷ rs) m =
-    ap₂ (λ (e : Said) (es : List Said). e ∷ es)
-    (ap (λ (o : Outcome). saidOf (r .bytes) o) (m .0))
-    (run-said (r .left) rs (m .1) ∙ ap (λ (K : Ledger). said K (callsOf rs)) (ap (λ (o : Outcome). o .left) (m .0)))
+pub meets-said : (L : Ledger) (rs : List Result) → Meets L rs → saidBy rs ≡ said L (submissions rs)
+meets-said L [] m = refl
+meets-said L (r ∷ rs) m =
+    ap (λ (es : List Said). saidOf (r .bytes) (outcome (r .number) (r .word) (r .left)) ∷ es) (meets-said (r .left) rs (m .1))
+    ∙ ap (λ (o : Outcome). saidOf (r .bytes) o ∷ said (o .left) (submissions rs)) (m .0)
 
-pub runs-add-up : The-books → Sound-always → Runs-add-up
-runs-add-up books sound-always L lent rs m = (
-  subst₂ (λ (K : Ledger) (es : List Said). Adds-up K es) (sym (run-after (started L) rs m)) (sym (run-said (started L) rs m)) (books L lent (callsOf rs)),
-  ap sound (run-after (started L) rs m) ∙ sound-always L lent (callsOf rs),
+-- a run goes on from where it was
+meets-fst : (L : Ledger) (xs ys : List Result) → Meets L (xs ++ ys) → Meets L xs
+meets-fst L [] ys m = tt
+meets-fst L (x ∷ xs) ys m = (m .0, meets-fst (x .left) xs ys (m .1))
+
+meets-snd : (L : Ledger) (xs ys : List Result) → Meets L (xs ++ ys) → Meets (lastOf L xs) ys
+meets-snd L [] ys m = m
+meets-snd L (x ∷ xs) ys m = meets-snd (x .left) xs ys (m .1)
+
+pub runs-refuse-retries : Runs-refuse-retries
+runs-refuse-retries L h first between again m zero no-sweep same-signer same-nonce = (
+  (λ z. refused .number (sym (ap (λ (o : Outcome). o .number) last) ∙ z)),
+  ap (λ (o : Outcome). o .word) last ∙ refused .word,
+  ap (λ (o : Outcome). o .left) last ∙ refused .left,
 )
+  where
+    K : Ledger
+    K = lastOf (first .left) between
 
--- a run in two parts
-meets-first : (L : Ledger) (rs ss : List Result) → Meets L (rs ++ ss) → Meets L rs
-meets-first L [] ss m = tt
-meets-first L (r ∷ rs) ss m = (m .0, meets-first (r .left) rs ss (m .1))
+    K-is : K ≡ after (submit L (first .bytes) .left) (submissions between)
+    K-is =
+        meets-after (first .left) between (meets-fst (first .left) between (again ∷ []) (m .1))
+        ∙ ap (λ (o : Outcome). after (o .left) (submissions between)) (m .0)
 
-meets-second : (L : Ledger) (rs ss : List Result) → Meets L (rs ++ ss) → Meets (lastOf L rs) ss
-meets-second L [] ss m = m
-meets-second L (r ∷ rs) ss m = meets-second (r .left) rs ss (m .1)
+    last : outcome (again .number) (again .word) (again .left) ≡ submit K (again .bytes)
+    last = meets-snd (first .left) between (again ∷ []) (m .1) .0
 
-pub runs-refuse-retries : Replay-guard → Runs-refuse-retries
-runs-refuse-retries guard L wide one between again m settled not-sweep signer nonce =
-    let b = one .bytes in
-    let c = again .bytes in
-    let K : Ledger = lastOf (one .left) between in
-    let e : outcome (again .number) (again .word) (again .left) ≡ submit K c = meets-second (one .left) between (again ∷ []) (m .1) .0 in
-    let l : one .left ≡ submit L b .left = ap (λ (o : Outcome). o .left) (m .0) in
-    let k : K ≡ after (submit L b .left) (callsOf between) =
-    run-after (one .left) between (meets-first (one .left) between (again ∷ []) (m .1)) ∙ ap (λ (M : Ledger). after M (callsOf between)) l in
-    let r : Refused K c =
-    subst (λ (M : Ledger). Refused M c) (sym k)
-    (guard L wide b (callsOf between) c (sym (ap (λ (o : Outcome). o .number) (m .0)) ∙ settled) not-sweep signer nonce) in
-    ((λ z. r .number (sym (ap (λ (o : Outcome). o .number) e) ∙ z)), ap (λ (o : Outcome). o .word) e ∙ r .word, ap (λ (o : Outcome). o .left) e ∙ r .left)
+    refused : Refused K (again .bytes)
+    refused =
+        subst (λ (M : Ledger). Refused M (again .bytes)) (sym K-is)
+        (replay-guard L h (first .bytes) (submissions between) (again .bytes) (sym (ap (λ (o : Outcome). o .number) (m .0)) ∙ zero) no-sweep
+        same-signer same-nonce)
