@@ -7,6 +7,8 @@ pub mod Below
 pub mod Accounts
 pub mod Moves
 pub mod Good
+pub mod Ends
+pub mod Stays
 pub mod Cases
 -- the refusals, the replay guard, the sweep, and that sound stays
 pub mod Refused
