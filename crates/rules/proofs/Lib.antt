@@ -9,6 +9,7 @@ pub mod Moves
 pub mod Good
 pub mod Ends
 pub mod Stays
+pub mod Ensured
 pub mod Cases
 -- the refusals, the replay guard, the sweep, and that sound stays
 pub mod Refused
