@@ -15,3 +15,8 @@ pub mod Cases
 pub mod Refused
 pub mod Calls
 pub mod Demand12
+pub mod Keeps
+pub mod Lengths
+pub mod Replay
+pub mod Runs
+pub mod Turns
