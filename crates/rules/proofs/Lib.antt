@@ -21,3 +21,4 @@ pub mod Replay
 pub mod Runs
 pub mod Turns
 pub mod SweepPlan
+pub mod Passed
