@@ -22,3 +22,4 @@ pub mod Runs
 pub mod Turns
 pub mod SweepPlan
 pub mod Passed
+pub mod GoodRows
