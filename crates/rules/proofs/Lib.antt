@@ -24,3 +24,5 @@ pub mod SweepPlan
 pub mod Passed
 pub mod GoodRows
 pub mod SoundStays
+pub mod SoundParts
+pub mod SoundAlways

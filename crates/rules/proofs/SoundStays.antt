@@ -33,7 +33,7 @@ use Rattle.rules.proofs.Passed.{amount-low, amount-high, sender-row, se
 use Rattle.rules.proofs.Passed.{written-row, link-from, link-to, receipt-row, grant-within, wallet-place, escrow-place, receipt-place}
 
 -- tables that are good with the counts and the total that the header has
-good-counts : (K : Ledger) (nw g ne nr : ℕ) → walletCount K ≡ nw → head K GRANTED ≡ g → escrowCount K ≡ ne → receiptCount K ≡ nr
+pub good-counts : (K : Ledger) (nw g ne nr : ℕ) → walletCount K ≡ nw → head K GRANTED ≡ g → escrowCount K ≡ ne → receiptCount K ≡ nr
     → GoodTables (K .wallets) nw g (K .escrows) (K .edition .escrowLen) ne (K .receipts) nr → Good K
 good-counts K nw g ne nr a b c d good =
     subst (λ (x : ℕ). GoodTables (K .wallets) (walletCount K) x (K .escrows) (K .edition .escrowLen) (escrowCount K) (K .receipts) (receiptCount K)) (sym b)
