@@ -7,6 +7,9 @@ pub mod Below
 pub mod Accounts
 pub mod Moves
 pub mod Good
+pub mod Ends
+pub mod Stays
+pub mod Ensured
 pub mod Cases
 -- the refusals, the replay guard, the sweep, and that sound stays
 pub mod Refused
@@ -16,3 +19,5 @@ pub mod Keeps
 pub mod Lengths
 pub mod Replay
 pub mod Runs
+pub mod Turns
+pub mod SweepPlan
