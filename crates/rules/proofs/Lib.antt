@@ -10,6 +10,7 @@ pub mod Good
 pub mod Ends
 pub mod Stays
 pub mod Ensured
+pub mod Agree
 pub mod Cases
 -- the refusals, the replay guard, the sweep, and that sound stays
 pub mod Refused
