@@ -11,6 +11,7 @@ pub mod Ends
 pub mod Stays
 pub mod Ensured
 pub mod Agree
+pub mod InStep
 pub mod Cases
 -- the refusals, the replay guard, the sweep, and that sound stays
 pub mod Refused
