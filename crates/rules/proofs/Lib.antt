@@ -12,6 +12,8 @@ pub mod Stays
 pub mod Ensured
 pub mod Agree
 pub mod InStep
+pub mod Changes
+pub mod Operations
 pub mod Cases
 -- the refusals, the replay guard, the sweep, and that sound stays
 pub mod Refused
