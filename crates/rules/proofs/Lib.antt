@@ -24,3 +24,6 @@ pub mod Lengths
 pub mod Replay
 pub mod Runs
 pub mod Turns
+pub mod SweepPlan
+pub mod Passed
+pub mod GoodRows
