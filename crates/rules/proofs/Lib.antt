@@ -27,3 +27,4 @@ pub mod Turns
 pub mod SweepPlan
 pub mod Passed
 pub mod GoodRows
+pub mod Books
