@@ -10,6 +10,10 @@ pub mod Good
 pub mod Ends
 pub mod Stays
 pub mod Ensured
+pub mod Agree
+pub mod InStep
+pub mod Changes
+pub mod Operations
 pub mod Cases
 -- the refusals, the replay guard, the sweep, and that sound stays
 pub mod Refused
@@ -21,3 +25,6 @@ pub mod Replay
 pub mod Runs
 pub mod Turns
 pub mod SweepPlan
+pub mod Passed
+pub mod GoodRows
+pub mod Books
