@@ -4,4 +4,6 @@ pub mod Rows
 pub mod Counts
 pub mod Seek
 pub mod Below
+pub mod Le
+pub mod Codec
 pub mod Cases
