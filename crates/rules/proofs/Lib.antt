@@ -6,4 +6,20 @@ pub mod Seek
 pub mod Below
 pub mod Le
 pub mod Codec
+pub mod Accounts
+pub mod Moves
+pub mod Good
+pub mod Ends
+pub mod Stays
+pub mod Ensured
 pub mod Cases
+-- the refusals, the replay guard, the sweep, and that sound stays
+pub mod Refused
+pub mod Calls
+pub mod Demand12
+pub mod Keeps
+pub mod Lengths
+pub mod Replay
+pub mod Runs
+pub mod Turns
+pub mod SweepPlan
