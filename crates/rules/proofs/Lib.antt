@@ -4,12 +4,18 @@ pub mod Rows
 pub mod Counts
 pub mod Seek
 pub mod Below
+pub mod Le
+pub mod Codec
 pub mod Accounts
 pub mod Moves
 pub mod Good
 pub mod Ends
 pub mod Stays
 pub mod Ensured
+pub mod Agree
+pub mod InStep
+pub mod Changes
+pub mod Operations
 pub mod Cases
 -- the refusals, the replay guard, the sweep, and that sound stays
 pub mod Refused
@@ -26,3 +32,4 @@ pub mod GoodRows
 pub mod SoundStays
 pub mod SoundParts
 pub mod SoundAlways
+pub mod Books
