@@ -24,7 +24,6 @@ pub mod Demand12
 pub mod Keeps
 pub mod Lengths
 pub mod Replay
-pub mod Runs
 pub mod Turns
 pub mod SweepPlan
 pub mod Passed
@@ -33,3 +32,4 @@ pub mod SoundStays
 pub mod SoundParts
 pub mod SoundAlways
 pub mod Books
+pub mod Runs
