@@ -1,11 +1,8 @@
 -- From the code to the theorems: whatever a run of calls showed, each of them meeting the contract of `submit`, is what the definitions say of
 -- the same bytes. So the books, soundness and the replay guard hold of the run.
-use mathlib.Core.Path.{_≡_, refl, sym, ap, ap₂, _∙_, subst, subst₂}
-use mathlib.Core.Logic.{_≢_}
+use mathlib.Core.Path.{_≡_, refl, sym, ap, _∙_, subst, subst₂}
 use mathlib.Core.List.{List, [], _∷_, _++_}
-use Prim.Native.Nat.{ℕ}
 use Rattle.rules.specs.Ledger.{Ledger, Outcome, outcome}
-use Rattle.rules.specs.Record.{readOf}
 use Rattle.rules.specs.Sound.{sound}
 use Rattle.rules.specs.Submit.{submit}
 use Rattle.rules.specs.History.{Call, submits, after, Said, saidOf, said}

@@ -4,31 +4,31 @@ use mathlib.Core.Path.{_≡_, refl, sym, ap, _∙_, subst, subst₂, subst₃}
 use mathlib.Core.Logic.{_≢_}
 use mathlib.Core.List.{List, [], _∷_}
 use mathlib.Core.Bool.{Bool, true, false, not, _&&_, _||_, true≢false, false≢true}
-use Prim.Native.Nat.{ℕ, _+_, _-_, _*_, _/_, _≤_, _<_}
+use Prim.Native.Nat.{ℕ, _+_, _-_, _/_, _≤_, _<_}
 use native.Mathlib.Omega.{arith}
 use lib.ListN.{getD, set, length, length-set}
 use lib.Seq.{getD-set-same, getD-set-other}
-use lib.Dec.{eqb, leb, lit<, lit≤}
+use lib.Dec.{eqb, lit<, lit≤}
 use borrow.Author.Tests.{eqb-true, eqb-false, leb-true, le-leb}
 use Rattle.rules.specs.Limits.{JOURNAL-LEN, LAST-TIME-MS, MAX-AMOUNT-MICRO, GRANT, TRANSFER, OPEN, SWEEP}
 use Rattle.rules.specs.Limits.{EDITION, SYSTEM-FROZEN, CLOCK, GRANTED, WALLETS, ESCROWS, RECEIPTS, ENTRIES, LOCKED, OPERATION, ENTRY-AMOUNT, SETTLED-AT}
-use Rattle.rules.specs.Table.{word, putRow, rowsIn, all}
+use Rattle.rules.specs.Table.{word, putRow, rowsIn}
 use Rattle.rules.specs.Ledger.{Edition, Ledger, Outcome, outcome, head, walletCount, escrowCount, receiptCount, entryCount}
 use Rattle.rules.specs.Ledger.{setHeader, putHead, newEntry, lengthsRight, freshHeader, fresh}
 use Rattle.rules.specs.Record.{readOf}
 use Rattle.rules.specs.Sound.{time, between, headerTests, soundTests, sound}
 use Rattle.rules.specs.Refusals.{refusals, entryRefusals, envelopeRefusals, operationRefusals, oneOf}
 use Rattle.rules.specs.Settle.{operate, entryOf, enter, settle}
-use Rattle.rules.specs.Submit.{answerOf, submit}
+use Rattle.rules.specs.Submit.{answerOf}
 use Rattle.rules.specs.History.{Call, leaves, after}
-use Rattle.rules.specs.Promises.{Lent, started, Within, Sound-always, Sound-settles, Never-damaged, Rows-stay-within}
+use Rattle.rules.specs.Promises.{Lent, started, Sound-always, Sound-settles, Never-damaged, Rows-stay-within}
 use Rattle.rules.specs.declared.Submission.{Submission}
 use Rattle.rules.specs.declared.Read.{Read}
-use Rattle.rules.proofs.Bools.{and-intro, or-snd, all-at, cond-case}
+use Rattle.rules.proofs.Bools.{and-intro, all-at, cond-case}
 use Rattle.rules.proofs.Rows.{room, word-new, word-old, length-put-row, zeros}
 use Rattle.rules.proofs.Counts.{sum-none}
 use Rattle.rules.proofs.Accounts.{bal-missing}
-use Rattle.rules.proofs.Good.{GoodTables, Good, good-of}
+use Rattle.rules.proofs.Good.{GoodTables, Good}
 use Rattle.rules.proofs.GoodRows.{new-or-old}
 use Rattle.rules.proofs.SoundStays.{good-counts, good-head, good-operate}
 use Rattle.rules.proofs.SoundParts.{GoodJournal, GoodHeader, journal-of, header-of, sound-of}

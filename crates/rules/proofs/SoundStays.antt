@@ -2,18 +2,18 @@
 use mathlib.Core.Path.{_≡_, refl, sym, ap, _∙_, subst, subst₃}
 use mathlib.Core.Logic.{_≢_}
 use mathlib.Core.List.{List, [], _∷_}
-use mathlib.Core.Bool.{Bool, true, false, cond}
-use Prim.Native.Nat.{ℕ, zero, suc, _+_, _-_, _*_, _≤_, _<_}
+use mathlib.Core.Bool.{Bool, true, false}
+use Prim.Native.Nat.{ℕ, _+_, _-_, _≤_, _<_}
 use native.Mathlib.Omega.{arith}
-use lib.ListN.{getD, set, length}
+use lib.ListN.{getD, length}
 use lib.Seq.{getD-set-same, getD-set-other}
 use lib.Dec.{eqb, lit<, lit≤}
-use borrow.Author.Tests.{leb-true, eqb-true, eqb-false}
-use Rattle.rules.specs.Limits.{WALLET-LEN, RECEIPT-LEN, LAST-TIME-MS, SYSTEM-FROZEN, GRANTED, WALLETS, ESCROWS, RECEIPTS, ID, BALANCE, LOCKED, FROZEN, TX-CAP, DAILY-CAP}
-use Rattle.rules.specs.Limits.{IS-OPEN, RELEASED, REFUNDED, PENDING, DISPUTED, AUTO-OR-FREEZE, RECEIPT-LINK}
-use Rattle.rules.specs.Limits.{GRANT, TRANSFER, OPEN, RELEASE, REFUND, CLAIM, ACCEPT, DISPUTE, SWEEP, FREEZE, CAPS}
-use Rattle.rules.specs.Table.{word, put, putRow, rowsIn}
-use Rattle.rules.specs.Ledger.{Edition, Ledger, head, escrow, walletCount, escrowCount, receiptCount, rowOf, walletRow, putHead, putWallet, newEscrow, newReceipt}
+use borrow.Author.Tests.{eqb-true, eqb-false}
+use Rattle.rules.specs.Limits.{WALLET-LEN, SYSTEM-FROZEN, GRANTED, WALLETS, ESCROWS, RECEIPTS, BALANCE, LOCKED, FROZEN, TX-CAP, DAILY-CAP}
+use Rattle.rules.specs.Limits.{IS-OPEN, RELEASED, REFUNDED, PENDING, DISPUTED, AUTO-OR-FREEZE}
+use Rattle.rules.specs.Limits.{GRANT, TRANSFER, OPEN, CLAIM, ACCEPT, DISPUTE}
+use Rattle.rules.specs.Table.{put, rowsIn}
+use Rattle.rules.specs.Ledger.{Edition, Ledger, head, walletCount, escrowCount, receiptCount, walletRow, putHead, putWallet, newEscrow, newReceipt}
 use Rattle.rules.specs.Record.{bit}
 use Rattle.rules.specs.Refusals.{oneOf, paying, closing}
 use Rattle.rules.specs.Settle.{raise, lower, ensureWallet, endEscrow, operations, idle, operate, grant, transfer, openEscrow, release, refund, claim, accept, dispute, sweep, freeze, caps}
@@ -25,7 +25,7 @@ use Rattle.rules.proofs.Rows.{rows-fit}
 use Rattle.rules.proofs.Accounts.{bal, bal-found, bal-put-col, total-put-col}
 use Rattle.rules.proofs.Moves.{up, mv, up-bal, up-total, mv-bal, mv-total}
 use Rattle.rules.proofs.Good.{GoodTables, Good, good-of}
-use Rattle.rules.proofs.GoodRows.{Moved, moved-put, moved-then, moved-tables, open-tables, claim-tables}
+use Rattle.rules.proofs.GoodRows.{moved-put, moved-then, moved-tables, open-tables, claim-tables}
 use Rattle.rules.proofs.Stays.{kept-end, kept-close, kept-accept, kept-sweep}
 use Rattle.rules.proofs.Ensured.{Ensured, ensured}
 use Rattle.rules.proofs.Calls.{settled, Formed, by-op}
