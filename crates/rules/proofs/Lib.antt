@@ -4,6 +4,8 @@ pub mod Rows
 pub mod Counts
 pub mod Seek
 pub mod Below
+pub mod Le
+pub mod Codec
 pub mod Accounts
 pub mod Moves
 pub mod Good
