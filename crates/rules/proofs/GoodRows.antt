@@ -86,7 +86,7 @@ moved-tables ws nw g es len ne rs nr ws′ g′ good m locked totals most = reco
 -- ---- a new row, and the old ones
 
 -- what holds of row n, and of the rows before it, holds of every row below n + 1
-new-or-old : (Q : ℕ → Type 0) (n j : ℕ) → j < n + 1 → Q n → (j < n → Q j) → Q j
+pub new-or-old : (Q : ℕ → Type 0) (n j : ℕ) → j < n + 1 → Q n → (j < n → Q j) → Q j
 new-or-old Q n j h new old = go (ℕ-discrete j n)
   where
     go : Dec (j ≡ n) → Q j

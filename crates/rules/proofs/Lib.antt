@@ -24,9 +24,12 @@ pub mod Demand12
 pub mod Keeps
 pub mod Lengths
 pub mod Replay
-pub mod Runs
 pub mod Turns
 pub mod SweepPlan
 pub mod Passed
 pub mod GoodRows
+pub mod SoundStays
+pub mod SoundParts
+pub mod SoundAlways
 pub mod Books
+pub mod Runs
