@@ -37,9 +37,9 @@ module _ (L : Ledger) (now : ℕ) (now-right : now ≤ LAST-TIME-MS) where
       → Fits (closeDueReceipt now i K) (cond (eqb (B .note i .auto) 1) (tries (B .note i .link) now i B) (closes i B))
   unfolding closeDueReceipt
   fits-due-receipt K B g f i i< =
-      cond-rel Fits (eqb (receipt K i AUTO-ACCEPT) 1) (eqb (B .note i .auto) 1) (acceptRow now 0 i K .after) (closeReceipt LAPSED now 0 i K) _ _
-      (ap (λ (x : ℕ). eqb x 1) (f .recs .auto i i<)) (λ h. fits-accept K B g f i i< now 0 now-right .fits)
-      (λ h. fits-close K B g f i i< LAPSED now 0 refl)
+      cond-rel Fits (eqb (receipt K i AUTO-ACCEPT) 1) (eqb (B .note i .auto) 1) _ _ _ _
+      (ap (λ (x : ℕ). eqb x 1) (f .recs .auto i i<)) (λ h. fits-accept K B g f i i< _ _ (omega arith) .fits)
+      (λ h. fits-close K B g f i i< _ _ _ refl)
 
   along-receipt : (i : ℕ) → i < receiptCount L → (s : Sweep) (z : Sweeping) → Along L s z → Along L (sweepReceipt now i s) (sweepNote now i z)
   along-receipt i i< s z a =
@@ -70,7 +70,7 @@ module _ (L : Ledger) (now : ℕ) (now-right : now ≤ LAST-TIME-MS) where
               room = ap (λ (x : ℕ). x - 1) (a .step .room);
               fits =
                   fits-end K (z .book) (a .kept .good) F i j<
-                  (sym (F .escs .live i j<) ∙ and-fst (eqb (escrow K i ESCROW-STATE) IS-OPEN) _ (and-snd (ltb 0 (s .room)) _ e)) EXPIRED now 0 refl;
+                  (sym (F .escs .live i j<) ∙ and-fst (eqb (escrow K i ESCROW-STATE) IS-OPEN) _ (and-snd (ltb 0 (s .room)) _ e)) _ _ _ refl;
             })
             (λ e. a .step);
       }

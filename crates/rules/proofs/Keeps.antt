@@ -172,11 +172,11 @@ keeps-accept now signer i L =
 pub keeps-due-receipt : (now i : ℕ) (L : Ledger) → Keeps L (closeDueReceipt now i L)
 unfolding closeDueReceipt
 keeps-due-receipt now i L =
-    cond-case (Keeps L) (eqb (receipt L i AUTO-ACCEPT) 1) _ _ (λ e. keeps-accept now 0 i L) (λ e. keeps-close LAPSED now 0 i L)
+    cond-case (Keeps L) (eqb (receipt L i AUTO-ACCEPT) 1) _ _ (λ e. keeps-accept _ _ _ L) (λ e. keeps-close _ _ _ _ L)
 
 pub keeps-due-escrow : (now i : ℕ) (L : Ledger) → Keeps L (closeDueEscrow now i L)
 unfolding closeDueEscrow
-keeps-due-escrow now i L = keeps-end EXPIRED now 0 i L
+keeps-due-escrow now i L = keeps-end _ _ _ _ L
 
 keeps-loop : (n : ℕ) (f : ℕ → Sweep → Sweep) → ((i : ℕ) (s : Sweep) → Keeps (s .tables) (f i s .tables)) → (s : Sweep)
     → Keeps (s .tables) (loop n f s .tables)
