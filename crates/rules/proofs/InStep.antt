@@ -1,15 +1,15 @@
 -- A sweep of the tables and a sweep of the book go in step: two loops each, turn by turn. Both sides test whether the same row is due by words
 -- that agree, so no plan of the sweep has to be compared.
 use mathlib.Core.Path.{_≡_, refl, sym, ap, ap₂, _∙_, subst}
-use mathlib.Core.Bool.{Bool, true, false, cond, _&&_}
+use mathlib.Core.Bool.{Bool, cond, _&&_}
 use Prim.Native.Nat.{ℕ, zero, suc, _-_, _≤_, _<_}
 use native.Mathlib.Omega.{arith}
 use lib.Dec.{eqb, ltb}
-use Rattle.rules.specs.Limits.{LAST-TIME-MS, ESCROWS, RECEIPTS, ESCROW-STATE, ESCROW-DEADLINE, RECEIPT-STATE, ACCEPTANCE-DEADLINE, AUTO-ACCEPT, IS-OPEN, PENDING, EXPIRED, LAPSED}
+use Rattle.rules.specs.Limits.{LAST-TIME-MS, ESCROWS, RECEIPTS, ESCROW-STATE, AUTO-ACCEPT, IS-OPEN}
 use Rattle.rules.specs.Table.{loop}
 use Rattle.rules.specs.Ledger.{Ledger, escrow, receipt, escrowCount, receiptCount}
-use Rattle.rules.specs.Settle.{closeReceipt, acceptRow, Sweep, oneMore, dueReceipt, dueEscrow, closeDueReceipt, closeDueEscrow, sweepReceipt, sweepEscrow, sweepStart, sweptReceipts, swept}
-use Rattle.rules.specs.History.{Book, Sweeping, closes, tries, ends, sweepNote, sweepDeal, sweeps}
+use Rattle.rules.specs.Settle.{Sweep, dueReceipt, dueEscrow, closeDueReceipt, closeDueEscrow, sweepReceipt, sweepEscrow, sweepStart, sweptReceipts, swept}
+use Rattle.rules.specs.History.{Book, Sweeping, closes, tries, sweepNote, sweepDeal, sweeps}
 use Rattle.rules.proofs.Bools.{and-fst, and-snd}
 use Rattle.rules.proofs.Good.{Good}
 use Rattle.rules.proofs.Stays.{Kept, kept-start, row-kept, receipt-turn, escrow-turn}

@@ -6,6 +6,7 @@ pub mod Seek
 pub mod Below
 pub mod Le
 pub mod Codec
+-- credits, a good ledger, and the simulation of the books
 pub mod Accounts
 pub mod Moves
 pub mod Good

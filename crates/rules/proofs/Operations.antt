@@ -1,15 +1,15 @@
 -- Tables and book agree after each operation. What an operation needs of the ledger (a wallet, a balance, an open escrow, room for a row) is a
 -- hypothesis here; Books takes it from the refusals.
-use mathlib.Core.Path.{_≡_, refl, sym, ap, _∙_, subst, subst₃}
+use mathlib.Core.Path.{_≡_, refl, sym, _∙_, subst, subst₃}
 use mathlib.Core.List.{List}
-use mathlib.Core.Bool.{Bool, true, false, cond}
+use mathlib.Core.Bool.{true, cond}
 use Prim.Native.Nat.{ℕ, _+_, _-_, _≤_, _<_}
 use native.Mathlib.Omega.{arith}
 use lib.ListN.{length}
 use lib.Seq.{getD-set-same, getD-set-other}
 use lib.Dec.{eqb, lit<}
 use Rattle.rules.specs.Limits.{RECEIPT-LEN, LAST-TIME-MS, SYSTEM-FROZEN, GRANTED, WALLETS, ESCROWS, RECEIPTS, BALANCE, FROZEN, TX-CAP, DAILY-CAP}
-use Rattle.rules.specs.Limits.{AUTO-OR-FREEZE, ESCROW-STATE, IS-OPEN, RELEASED, REFUNDED, DISPUTED}
+use Rattle.rules.specs.Limits.{AUTO-OR-FREEZE, ESCROW-STATE, IS-OPEN}
 use Rattle.rules.specs.Table.{rowsIn}
 use Rattle.rules.specs.Ledger.{Edition, Ledger, head, escrow, walletCount, escrowCount, receiptCount, walletRow, putHead, putWallet, newEscrow, newReceipt}
 use Rattle.rules.specs.Record.{bit}

@@ -3,8 +3,8 @@
 use mathlib.Core.Path.{_≡_, refl, sym, _∙_, subst}
 use mathlib.Core.Logic.{_≢_}
 use mathlib.Core.List.{List}
-use mathlib.Core.Bool.{Bool, true, false, cond, _&&_}
-use Prim.Native.Nat.{ℕ, zero, suc, _+_, _-_, _≤_, _<_}
+use mathlib.Core.Bool.{true, false, _&&_}
+use Prim.Native.Nat.{ℕ, zero, suc, _-_, _≤_, _<_}
 use native.Mathlib.Nat.{le-refl}
 use native.Mathlib.Omega.{arith}
 use lib.ListN.{getD}
@@ -15,7 +15,7 @@ use Rattle.rules.specs.Limits.{RECEIPT-LINK, AUTO-ACCEPT, RELEASE-CODE, 
 use Rattle.rules.specs.Table.{loop}
 use Rattle.rules.specs.Ledger.{Ledger, head, escrow, receipt, walletCount, escrowCount, receiptCount, putWallet, putEscrow, putReceipt}
 use Rattle.rules.specs.Refusals.{releasable}
-use Rattle.rules.specs.Settle.{raise, lower, endEscrow, closeReceipt, Done, done, acceptRow, Sweep, oneMore, sweepStart, dueReceipt, dueEscrow}
+use Rattle.rules.specs.Settle.{raise, lower, endEscrow, closeReceipt, Done, done, acceptRow, Sweep, sweepStart, dueReceipt, dueEscrow}
 use Rattle.rules.specs.Settle.{closeDueReceipt, closeDueEscrow, sweepReceipt, sweepEscrow, sweptReceipts, swept}
 use Rattle.rules.proofs.Bools.{and-fst, and-snd, cond-case}
 use Rattle.rules.proofs.Good.{State, Good}
