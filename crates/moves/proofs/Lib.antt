@@ -1,0 +1,4 @@
+-- The steps of each move over plain values, which the proofs of the functions cite.
+pub mod Wallets
+pub mod Ends
+pub mod Accepts
