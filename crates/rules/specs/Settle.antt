@@ -76,16 +76,22 @@ abbrev pub dueEscrow : Ledger → ℕ → ℕ → Bool
 dueEscrow L now i = eqb (escrow L i ESCROW-STATE) IS-OPEN && ltb (escrow L i ESCROW-DEADLINE) now
 
 -- an auto-accept receipt is accepted, any other expires
+unfoldable pub closeDueReceipt : ℕ → ℕ → Ledger → Ledger
+closeDueReceipt now i L = cond (eqb (receipt L i AUTO-ACCEPT) 1) (acceptRow now 0 i L .after) (closeReceipt LAPSED now 0 i L)
+
+-- an escrow expires with its credits returned
+unfoldable pub closeDueEscrow : ℕ → ℕ → Ledger → Ledger
+closeDueEscrow now i L = endEscrow EXPIRED now 0 i L
+
 unfoldable pub sweepReceipt : ℕ → ℕ → Sweep → Sweep
 sweepReceipt now i s =
     let L = s .tables in
-    cond (ltb 0 (s .room) && dueReceipt L now i)
-    (oneMore s (cond (eqb (receipt L i AUTO-ACCEPT) 1) (acceptRow now 0 i L .after) (closeReceipt LAPSED now 0 i L))) s
+    cond (ltb 0 (s .room) && dueReceipt L now i) (oneMore s (closeDueReceipt now i L)) s
 
 unfoldable pub sweepEscrow : ℕ → ℕ → Sweep → Sweep
 sweepEscrow now i s =
     let L = s .tables in
-    cond (ltb 0 (s .room) && dueEscrow L now i) (oneMore s (endEscrow EXPIRED now 0 i L)) s
+    cond (ltb 0 (s .room) && dueEscrow L now i) (oneMore s (closeDueEscrow now i L)) s
 
 abbrev pub sweepStart : ℕ → Ledger → Sweep
 sweepStart limit L = record { room = limit; closed = 0; tables = L }
