@@ -7,8 +7,8 @@ use Prim.Native.Nat.{ℕ, _+_, _-_, _*_, _<_, _≤_, _^_}
 use lib.ListN.{length, getD}
 use lib.Dec.{eqb, leb}
 use Rattle.rules.specs.Limits.{WALLET-LEN, RECEIPT-LEN, MAX-WALLETS, MAX-ESCROWS, MAX-RECEIPTS, WALLETS, BALANCE, LOCKED}
-use Rattle.rules.specs.Limits.{FROM, TO, ESCROW-AMOUNT, ESCROW-STATE, ESCROW-DEADLINE, ESCROW-CLOSED-AT, ESCROW-CLOSED-BY, IS-OPEN, RECEIPT-LINK}
-use Rattle.rules.specs.Table.{word, put}
+use Rattle.rules.specs.Limits.{FROM, TO, ESCROW-AMOUNT, ESCROW-STATE, ESCROW-DEADLINE, IS-OPEN, RECEIPT-LINK}
+use Rattle.rules.specs.Table.{word}
 use Rattle.rules.specs.Ledger.{rowOf, first-edition}
 
 abbrev pub HEADER-LEN : ℕ
@@ -30,11 +30,6 @@ pub record Counted (header wallets : List ℕ) : Type 0 where
 -- the escrow in row i is open and not stale
 abbrev pub releasableIn : List ℕ → ℕ → ℕ → Bool
 releasableIn escrows now i = eqb (word escrows ESCROW-LEN i ESCROW-STATE) IS-OPEN && leb now (word escrows ESCROW-LEN i ESCROW-DEADLINE)
-
--- an escrow's row with its last state
-unfoldable pub shut : List ℕ → ℕ → ℕ → ℕ → ℕ → List ℕ
-shut escrows i state now signer =
-    put (put (put escrows ESCROW-LEN i ESCROW-STATE state) ESCROW-LEN i ESCROW-CLOSED-AT now) ESCROW-LEN i ESCROW-CLOSED-BY signer
 
 -- the escrow in row i can end: its sender has its amount locked, and either party can take it
 pub record Ends (header wallets escrows : List ℕ) (i : ℕ) : Type 0 where

@@ -32,11 +32,11 @@ ghost use mathlib.Core.Bool.{cond, _&&_};
 ghost use Prim.Native.Nat.{ℕ, _+_, _-_, _*_, _<_, _≤_, _^_};
 ghost use lib.ListN.{length, getD, set};
 ghost use lib.Dec.{eqb, leb};
-ghost use Rattle.rules.specs.Limits.{WALLET-LEN, RECEIPT-LEN, WALLETS, RELEASED};
+ghost use Rattle.rules.specs.Limits.{WALLET-LEN, WALLETS, ESCROW-STATE, ESCROW-CLOSED-AT, ESCROW-CLOSED-BY, RELEASED};
 ghost use Rattle.rules.specs.Table.{word, put, putRow};
-ghost use Rattle.rules.specs.Ledger.{ledger, rowOf};
+ghost use Rattle.rules.specs.Ledger.{ledger, rowOf, putEscrow};
 ghost use Rattle.rules.specs.Settle.{ensureWallet, endEscrow, closeReceipt, acceptRow, done};
-ghost use Rattle.moves.specs.Needs.{ESCROW-LEN, Counted, Ends, Accepts, shut, releasableIn};
+ghost use Rattle.moves.specs.Needs.{Counted, Ends, Accepts, releasableIn};
 
 // A new row in the first unwritten place of a table; the header's word `count` counts its rows. Its number.
 pub fn append(header: &mut [u64], t: &mut [u64], len: usize, count: usize, words: &[u64]) -> u64
@@ -107,7 +107,7 @@ fn payee_row(
 // State, closed at and closing signer of an escrow.
 fn close_escrow(escrows: &mut [u64], row: usize, state: u64, time: u64, signer: u64)
     requires { ⌜ row < 2 ^ 32 ⌝ }
-    ensures { λ x. ⌜ now (escrows .exit) ≡ shut (now (escrows .entry)) row state time signer ⌝ }
+    ensures { λ x. ⌜ ((h w r j : List ℕ) → ledger h w (now (escrows .exit)) r j ≡ putEscrow row ESCROW-CLOSED-BY signer (putEscrow row ESCROW-CLOSED-AT time (putEscrow row ESCROW-STATE state (ledger h w (now (escrows .entry)) r j)))) ⌝ }
 {
     rows::set(escrows, ESCROW_LEN, row, ESCROW_STATE, state);
     rows::set(escrows, ESCROW_LEN, row, ESCROW_CLOSED_AT, time);

@@ -1,5 +1,5 @@
 -- `moves::close_escrow` meets its contract: three words set.
-use Rattle.moves.specs.Needs.{shut}
+use Rattle.rules.specs.Ledger.{putEscrow}
 use borrow.Author.Needs.{needs}
 use Rattle.moves.proofs.close_escrow.Statement.{statement}
 use Rattle.moves.proofs.close_escrow.Tie as tie
@@ -17,8 +17,8 @@ same-length : tie.Need-same-length
 same-length c = search needs
 
 returns : tie.Need-returns
-unfolding shut
-returns c = rw (c .before .before .set3 .ensures, c .before .before .before .before .before .before .set2 .ensures, c .before .before .before .before .before .before .before .before .before .before .set .ensures)
+unfolding putEscrow
+returns c = λ h w r j. rw (c .before .before .set3 .ensures, c .before .before .before .before .before .before .set2 .ensures, c .before .before .before .before .before .before .before .before .before .before .set .ensures)
 
 pub close-escrow-spec : {M : Type 1} → statement M
 close-escrow-spec =
