@@ -9,12 +9,13 @@ use native.Mathlib.Omega.{arith}
 use lib.ListN.{getD, length}
 use lib.Dec.{eqb, ltb, leb}
 use borrow.Author.Tests.{eqb-true, eqb-false, eq-eqb, ne-eqb, leb-true, leb-false}
-use Rattle.rules.specs.Limits.{JOURNAL-LEN, RECORD-BYTES, MARK-0, MARK-1, LAST-TIME-MS, SWEEP, CAPS}
+use Rattle.rules.specs.Limits.{JOURNAL-LEN, RECORD-BYTES, MARK-0, MARK-1, LAST-TIME-MS}
+use Rattle.rules.specs.Limits.{GRANT, TRANSFER, OPEN, RELEASE, REFUND, CLAIM, ACCEPT, DISPUTE, SWEEP, FREEZE, CAPS}
 use Rattle.rules.specs.Table.{rowsIn, every}
 use Rattle.rules.specs.Ledger.{Ledger, Outcome, outcome, entryCount, full, lengthsRight, lengthTests}
 use Rattle.rules.specs.Record.{wellFormed, formTests, usedOrZero, usesOf, accepted, decode, readOf, nothing}
 use Rattle.rules.specs.Sound.{sound}
-use Rattle.rules.specs.Refusals.{refusals, entryRefusals, envelopeRefusals, operationRefusals, oneOf, signed, seen}
+use Rattle.rules.specs.Refusals.{refusals, entryRefusals, envelopeRefusals, operationRefusals, oneOf, on, signed, seen}
 use Rattle.rules.specs.Settle.{Done, settle}
 use Rattle.rules.specs.Submit.{answerOf, finish, submitRead, submit}
 use Rattle.rules.specs.declared.Submission.{Submission}
@@ -67,8 +68,8 @@ settled L r e = record {
 }
 
 -- a condition on some operations, for one of them
-pub on-op : (ops : List ℕ) (o n : ℕ) (x : Bool) → o ≡ n → oneOf ops n ≡ true → oneOf ops o && x ≡ false → x ≡ false
-on-op ops o n x e t h = subst (λ (b : Bool). b && x ≡ false) (ap (oneOf ops) e ∙ t) h
+pub for-op : (s : Submission) (ops : List ℕ) (x : Bool) → oneOf ops (s .op) ≡ true → on s ops x ≡ false → x ≡ false
+for-op s ops x t h = subst (λ (b : Bool). b && x ≡ false) t h
 
 pub header-length : (L : Ledger) → lengthsRight L ≡ true → length (L .header) ≡ L .edition .headerLen
 unfolding lengthsRight
@@ -117,9 +118,27 @@ pub record Signed (L : Ledger) (r : Read) : Type 0 where
 
 pub settled-signed : (L : Ledger) (r : Read) → answerOf L r ≡ 0 → Formed (r .submission) → r .submission .op ≢ SWEEP → Signed L r
 settled-signed L r e f ne =
-    let o : ℕ = r .submission .op in
-    let t : oneOf signed o ≡ true = signed-op o (f .low) (f .high) ne in
+    let s : Submission = r .submission in
+    let t : oneOf signed (s .op) ≡ true = signed-op (s .op) (f .low) (f .high) ne in
     record {
-      unseen = on-op signed o o _ refl t (settled L r e .unseen);
-      place = leb-false (rowsIn JOURNAL-LEN (L .journal)) (entryCount L) (on-op signed o o _ refl t (settled L r e .place));
+      unseen = for-op s signed _ t (settled L r e .unseen);
+      place = leb-false (rowsIn JOURNAL-LEN (L .journal)) (entryCount L) (for-op s signed _ t (settled L r e .place));
     }
+
+-- a fact for each operation is a fact for the operation of a well-formed submission
+pub by-op {κ} : (Q : ℕ → Type κ) (o : ℕ) → 1 ≤ o → o ≤ CAPS → (o ≡ GRANT → Q GRANT) → (o ≡ TRANSFER → Q TRANSFER) → (o ≡ OPEN → Q OPEN)
+    → (o ≡ RELEASE → Q RELEASE) → (o ≡ REFUND → Q REFUND) → (o ≡ CLAIM → Q CLAIM) → (o ≡ ACCEPT → Q ACCEPT) → (o ≡ DISPUTE → Q DISPUTE)
+    → (o ≡ SWEEP → Q SWEEP) → (o ≡ FREEZE → Q FREEZE) → (o ≡ CAPS → Q CAPS) → Q o
+by-op Q zero a b f1 f2 f3 f4 f5 f6 f7 f8 f9 f10 f11 = absurd (omega arith)
+by-op Q (suc zero) a b f1 f2 f3 f4 f5 f6 f7 f8 f9 f10 f11 = f1 refl
+by-op Q (suc (suc zero)) a b f1 f2 f3 f4 f5 f6 f7 f8 f9 f10 f11 = f2 refl
+by-op Q (suc (suc (suc zero))) a b f1 f2 f3 f4 f5 f6 f7 f8 f9 f10 f11 = f3 refl
+by-op Q (suc (suc (suc (suc zero)))) a b f1 f2 f3 f4 f5 f6 f7 f8 f9 f10 f11 = f4 refl
+by-op Q (suc (suc (suc (suc (suc zero))))) a b f1 f2 f3 f4 f5 f6 f7 f8 f9 f10 f11 = f5 refl
+by-op Q (suc (suc (suc (suc (suc (suc zero)))))) a b f1 f2 f3 f4 f5 f6 f7 f8 f9 f10 f11 = f6 refl
+by-op Q (suc (suc (suc (suc (suc (suc (suc zero))))))) a b f1 f2 f3 f4 f5 f6 f7 f8 f9 f10 f11 = f7 refl
+by-op Q (suc (suc (suc (suc (suc (suc (suc (suc zero)))))))) a b f1 f2 f3 f4 f5 f6 f7 f8 f9 f10 f11 = f8 refl
+by-op Q (suc (suc (suc (suc (suc (suc (suc (suc (suc zero))))))))) a b f1 f2 f3 f4 f5 f6 f7 f8 f9 f10 f11 = f9 refl
+by-op Q (suc (suc (suc (suc (suc (suc (suc (suc (suc (suc zero)))))))))) a b f1 f2 f3 f4 f5 f6 f7 f8 f9 f10 f11 = f10 refl
+by-op Q (suc (suc (suc (suc (suc (suc (suc (suc (suc (suc (suc zero))))))))))) a b f1 f2 f3 f4 f5 f6 f7 f8 f9 f10 f11 = f11 refl
+by-op Q (suc (suc (suc (suc (suc (suc (suc (suc (suc (suc (suc (suc n)))))))))))) a b f1 f2 f3 f4 f5 f6 f7 f8 f9 f10 f11 = absurd (omega arith)

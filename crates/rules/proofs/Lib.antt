@@ -20,3 +20,7 @@ pub mod Lengths
 pub mod Replay
 pub mod Runs
 pub mod Turns
+pub mod SweepPlan
+pub mod Passed
+pub mod GoodRows
+pub mod SoundStays
