@@ -2,3 +2,4 @@
 pub mod Wallets
 pub mod Ends
 pub mod Accepts
+pub mod Bounds

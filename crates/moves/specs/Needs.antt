@@ -6,7 +6,7 @@ use mathlib.Core.Bool.{Bool, true, _&&_}
 use Prim.Native.Nat.{ℕ, _+_, _-_, _*_, _<_, _≤_, _^_}
 use lib.ListN.{length, getD}
 use lib.Dec.{eqb, leb}
-use Rattle.rules.specs.Limits.{WALLET-LEN, RECEIPT-LEN, MAX-WALLETS, MAX-ESCROWS, MAX-RECEIPTS, WALLETS, BALANCE, LOCKED}
+use Rattle.rules.specs.Limits.{WALLET-LEN, RECEIPT-LEN, MAX-WALLETS, MAX-ESCROWS, MAX-RECEIPTS, WALLETS, ESCROWS, RECEIPTS, BALANCE, LOCKED}
 use Rattle.rules.specs.Limits.{FROM, TO, ESCROW-AMOUNT, ESCROW-STATE, ESCROW-DEADLINE, IS-OPEN, RECEIPT-LINK}
 use Rattle.rules.specs.Table.{word}
 use Rattle.rules.specs.Ledger.{rowOf, first-edition}
@@ -20,6 +20,13 @@ ESCROW-LEN = first-edition .escrowLen
 -- the row of a wallet, of those that the header counts
 abbrev pub rowIn : List ℕ → List ℕ → ℕ → ℕ
 rowIn header wallets id = rowOf wallets (getD header WALLETS 0) id
+
+-- the header is whole, and counts no more rows than a table may have
+pub record Small (header : List ℕ) : Type 0 where
+  pub whole : length header ≡ HEADER-LEN
+  pub wallets : getD header WALLETS 0 ≤ MAX-WALLETS
+  pub escrows : getD header ESCROWS 0 ≤ MAX-ESCROWS
+  pub receipts : getD header RECEIPTS 0 ≤ MAX-RECEIPTS
 
 -- the header is whole, and counts wallets that are there
 pub record Counted (header wallets : List ℕ) : Type 0 where
