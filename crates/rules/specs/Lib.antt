@@ -9,4 +9,7 @@ pub mod Settle
 pub mod Submit
 pub mod Lookup
 pub mod Status
+pub mod History
+pub mod Due
+pub mod Promises
 pub mod Cases
