@@ -186,15 +186,8 @@ pub fn accept_receipt(
         return 0;
     }
     if is_releasable(escrows, (link - 1) as usize, time) {
-        end_escrow(
-            header,
-            wallets,
-            escrows,
-            EscrowNumber(link),
-            RELEASED,
-            time,
-            signer,
-        );
+        let escrow = EscrowNumber(link);
+        end_escrow(header, wallets, escrows, escrow, RELEASED, time, signer);
         return link;
     }
     rows::set(receipts, RECEIPT_LEN, row, RELEASE_CODE, RELEASE_IMPOSSIBLE);
