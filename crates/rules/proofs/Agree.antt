@@ -7,7 +7,6 @@ use mathlib.Core.List.{List}
 use mathlib.Core.Bool.{Bool, true, false, cond, _&&_, true≢false}
 use Prim.Native.Nat.{ℕ, _+_, _-_, _≤_, _<_}
 use native.Mathlib.Omega.{arith}
-use lib.ListN.{length}
 use lib.Dec.{eqb, leb, lit<, lit≤}
 use borrow.Author.Tests.{eqb-true, eqb-false}
 use Rattle.rules.specs.Limits.{RECEIPT-LEN, LAST-TIME-MS, GRANTED, ESCROWS, BALANCE, LOCKED, IS-OPEN, RELEASED, PENDING, ACCEPTED, RELEASE-CODE, RELEASE-IMPOSSIBLE}
@@ -17,7 +16,7 @@ use Rattle.rules.specs.Table.{word, put, rowsIn}
 use Rattle.rules.specs.Ledger.{Ledger, head, escrow, receipt, walletCount, escrowCount, receiptCount, putWallet, putEscrow, putReceipt}
 use Rattle.rules.specs.Refusals.{releasable}
 use Rattle.rules.specs.Settle.{raise, lower, endEscrow, closeReceipt, Done, done, acceptRow}
-use Rattle.rules.specs.History.{Book, Deal, Note, at, plus, ends, closes, tries}
+use Rattle.rules.specs.History.{Book, Deal, Note, at, ends, closes, tries}
 use Rattle.rules.proofs.Bools.{and-fst}
 use Rattle.rules.proofs.Rows.{rows-fit, in-table, word-col}
 use Rattle.rules.proofs.Accounts.{bal, total, Distinct}

@@ -3,19 +3,18 @@
 -- which changes neither, and so after the whole list.
 use mathlib.Core.Path.{_≡_, refl, sym, ap, _∙_, subst}
 use mathlib.Core.List.{List, [], _∷_}
-use mathlib.Core.Bool.{Bool, true, false, cond, true≢false}
+use mathlib.Core.Bool.{true, false, true≢false}
 use Prim.Native.Nat.{ℕ, _+_, _-_, _≤_, _<_}
 use native.Mathlib.Omega.{arith}
 use lib.ListN.{getD, length}
-use lib.Dec.{eqb, ltb}
+use lib.Dec.{eqb}
 use borrow.Author.Tests.{ltb-false, eqb-true}
 use Rattle.rules.specs.Limits.{GRANTED, WALLETS, ESCROWS, RECEIPTS, ID, BALANCE, LOCKED, GRANT, TRANSFER, OPEN, RELEASE, REFUND, CLAIM, ACCEPT, DISPUTE, SWEEP}
-use Rattle.rules.specs.Table.{sum}
 use Rattle.rules.specs.Ledger.{Ledger, Outcome, outcome, wallet, walletCount, rowOf, lengthsRight, setHeader, freshHeader, fresh}
 use Rattle.rules.specs.Record.{readOf}
 use Rattle.rules.specs.Sound.{credits}
 use Rattle.rules.specs.Refusals.{oneOf, paying, closing}
-use Rattle.rules.specs.Settle.{Done, operations, idle, operate, settle, openEscrow, claim}
+use Rattle.rules.specs.Settle.{operations, idle, operate, settle, openEscrow, claim}
 use Rattle.rules.specs.Submit.{answerOf, submit}
 use Rattle.rules.specs.History.{Call, submits, reads, writes, asks-status, finds-wallet, finds-escrow, finds-receipt, Said, saidOf, after, said, Book, blank, sayings, says-nothing, enters, bookFrom, bookOf}
 use Rattle.rules.specs.Promises.{Lent, started, Adds-up, The-books}

@@ -2,10 +2,10 @@
 use mathlib.Core.Path.{_≡_, refl, sym, ap, _∙_, subst, subst₂, subst₃}
 use mathlib.Core.Logic.{_≢_}
 use mathlib.Core.List.{List, [], _∷_}
-use mathlib.Core.Bool.{Bool, true, false, cond}
+use mathlib.Core.Bool.{Bool, true}
 use Prim.Native.Nat.{ℕ, _+_, _-_, _*_, _≤_, _<_}
 use native.Mathlib.Omega.{arith}
-use lib.ListN.{getD, set, length}
+use lib.ListN.{getD, length}
 use lib.Seq.{getD-set-other}
 use lib.Dec.{eqb, lit<, lit≤}
 use Rattle.rules.specs.Limits.{WALLET-LEN, RECEIPT-LEN, CLOCK, GRANTED, WALLETS, ESCROWS, RECEIPTS, ENTRIES, BALANCE, LOCKED, AUTO-OR-FREEZE, SWEEP}

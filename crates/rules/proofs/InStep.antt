@@ -1,15 +1,15 @@
 -- A sweep of the tables and a sweep of the book go in step: two loops each, turn by turn. Both sides test whether the same row is due by words
 -- that agree, so no plan of the sweep has to be compared.
 use mathlib.Core.Path.{_≡_, refl, sym, ap, ap₂, _∙_, subst}
-use mathlib.Core.Bool.{Bool, true, false, cond, _&&_}
+use mathlib.Core.Bool.{Bool, cond, _&&_}
 use Prim.Native.Nat.{ℕ, zero, suc, _-_, _≤_, _<_}
 use native.Mathlib.Omega.{arith}
 use lib.Dec.{eqb, ltb}
-use Rattle.rules.specs.Limits.{LAST-TIME-MS, ESCROWS, RECEIPTS, ESCROW-STATE, ESCROW-DEADLINE, RECEIPT-STATE, ACCEPTANCE-DEADLINE, AUTO-ACCEPT, IS-OPEN, PENDING, EXPIRED, LAPSED}
+use Rattle.rules.specs.Limits.{LAST-TIME-MS, ESCROWS, RECEIPTS, ESCROW-STATE, AUTO-ACCEPT, IS-OPEN}
 use Rattle.rules.specs.Table.{loop}
 use Rattle.rules.specs.Ledger.{Ledger, escrow, receipt, escrowCount, receiptCount}
-use Rattle.rules.specs.Settle.{closeReceipt, acceptRow, Sweep, oneMore, dueReceipt, dueEscrow, closeDueReceipt, closeDueEscrow, sweepReceipt, sweepEscrow, sweepStart, sweptReceipts, swept}
-use Rattle.rules.specs.History.{Book, Sweeping, closes, tries, ends, sweepNote, sweepDeal, sweeps}
+use Rattle.rules.specs.Settle.{Sweep, dueReceipt, dueEscrow, closeDueReceipt, closeDueEscrow, sweepReceipt, sweepEscrow, sweepStart, sweptReceipts, swept}
+use Rattle.rules.specs.History.{Book, Sweeping, closes, tries, sweepNote, sweepDeal, sweeps}
 use Rattle.rules.proofs.Bools.{and-fst, and-snd}
 use Rattle.rules.proofs.Good.{Good}
 use Rattle.rules.proofs.Stays.{Kept, kept-start, row-kept, receipt-turn, escrow-turn}
@@ -37,9 +37,9 @@ module _ (L : Ledger) (now : ℕ) (now-right : now ≤ LAST-TIME-MS) where
       → Fits (closeDueReceipt now i K) (cond (eqb (B .note i .auto) 1) (tries (B .note i .link) now i B) (closes i B))
   unfolding closeDueReceipt
   fits-due-receipt K B g f i i< =
-      cond-rel Fits (eqb (receipt K i AUTO-ACCEPT) 1) (eqb (B .note i .auto) 1) (acceptRow now 0 i K .after) (closeReceipt LAPSED now 0 i K) _ _
-      (ap (λ (x : ℕ). eqb x 1) (f .recs .auto i i<)) (λ h. fits-accept K B g f i i< now 0 now-right .fits)
-      (λ h. fits-close K B g f i i< LAPSED now 0 refl)
+      cond-rel Fits (eqb (receipt K i AUTO-ACCEPT) 1) (eqb (B .note i .auto) 1) _ _ _ _
+      (ap (λ (x : ℕ). eqb x 1) (f .recs .auto i i<)) (λ h. fits-accept K B g f i i< _ _ (omega arith) .fits)
+      (λ h. fits-close K B g f i i< _ _ _ refl)
 
   along-receipt : (i : ℕ) → i < receiptCount L → (s : Sweep) (z : Sweeping) → Along L s z → Along L (sweepReceipt now i s) (sweepNote now i z)
   along-receipt i i< s z a =
@@ -70,7 +70,7 @@ module _ (L : Ledger) (now : ℕ) (now-right : now ≤ LAST-TIME-MS) where
               room = ap (λ (x : ℕ). x - 1) (a .step .room);
               fits =
                   fits-end K (z .book) (a .kept .good) F i j<
-                  (sym (F .escs .live i j<) ∙ and-fst (eqb (escrow K i ESCROW-STATE) IS-OPEN) _ (and-snd (ltb 0 (s .room)) _ e)) EXPIRED now 0 refl;
+                  (sym (F .escs .live i j<) ∙ and-fst (eqb (escrow K i ESCROW-STATE) IS-OPEN) _ (and-snd (ltb 0 (s .room)) _ e)) _ _ _ refl;
             })
             (λ e. a .step);
       }

@@ -1,11 +1,11 @@
 -- No call changes the length of a lent table or the edition: the small moves keep them (Keeps), and so does a new journal row. So right
 -- lengths stay right.
-use mathlib.Core.Path.{_≡_, refl, sym, ap, _∙_, subst}
+use mathlib.Core.Path.{_≡_, refl, sym, _∙_, subst}
 use mathlib.Core.List.{List, [], _∷_}
-use mathlib.Core.Bool.{Bool, true, cond}
-use Prim.Native.Nat.{ℕ, _+_, _-_, _*_, _/_, _%_, _≤_}
+use mathlib.Core.Bool.{Bool}
+use Prim.Native.Nat.{ℕ, _+_, _-_, _/_, _%_, _≤_}
 use native.Mathlib.Omega.{arith}
-use lib.ListN.{length, length-set, length-replicate}
+use lib.ListN.{length-set, length-replicate}
 use lib.Dec.{eqb, leb}
 use Rattle.rules.specs.Limits.{WALLET-LEN, RECEIPT-LEN, JOURNAL-LEN, MAX-WALLETS, MAX-ESCROWS, MAX-RECEIPTS, MAX-ENTRIES, ENTRIES, SWEEP}
 use Rattle.rules.specs.Table.{all}
@@ -13,13 +13,13 @@ use Rattle.rules.specs.Ledger.{Edition, Ledger, Outcome, outcome, entryC
 use Rattle.rules.specs.Record.{readOf}
 use Rattle.rules.specs.Settle.{enter, settle}
 use Rattle.rules.specs.Submit.{submit}
-use Rattle.rules.specs.History.{Call, submits, reads, writes, asks-status, finds-wallet, finds-escrow, finds-receipt, leaves, after}
+use Rattle.rules.specs.History.{Call, submits, reads, writes, asks-status, finds-wallet, finds-escrow, finds-receipt, leaves}
 use Rattle.rules.specs.Promises.{Lent, started, Same-lengths, Lengths-stay}
 use Rattle.rules.specs.declared.Submission.{Submission}
 use Rattle.rules.proofs.Bools.{cond-case}
 use Rattle.rules.proofs.Rows.{length-put-row}
 use Rattle.rules.proofs.Calls.{by-left, header-length}
-use Rattle.rules.proofs.Keeps.{Keeps, lengths-same, lengths-then, beforeEntry, keeps-before}
+use Rattle.rules.proofs.Keeps.{lengths-same, lengths-then, beforeEntry, keeps-before}
 
 lengths-entry : (vs : List ℕ) (L : Ledger) → Same-lengths (newEntry vs L) L
 unfolding newEntry putHead

@@ -6,6 +6,7 @@ pub mod Seek
 pub mod Below
 pub mod Le
 pub mod Codec
+-- credits, a good ledger, and the simulation of the books
 pub mod Accounts
 pub mod Moves
 pub mod Good
@@ -24,9 +25,12 @@ pub mod Demand12
 pub mod Keeps
 pub mod Lengths
 pub mod Replay
-pub mod Runs
 pub mod Turns
 pub mod SweepPlan
 pub mod Passed
 pub mod GoodRows
+pub mod SoundStays
+pub mod SoundParts
+pub mod SoundAlways
 pub mod Books
+pub mod Runs

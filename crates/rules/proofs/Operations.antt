@@ -1,15 +1,15 @@
 -- Tables and book agree after each operation. What an operation needs of the ledger (a wallet, a balance, an open escrow, room for a row) is a
 -- hypothesis here; Books takes it from the refusals.
-use mathlib.Core.Path.{_≡_, refl, sym, ap, _∙_, subst, subst₃}
+use mathlib.Core.Path.{_≡_, refl, sym, _∙_, subst, subst₃}
 use mathlib.Core.List.{List}
-use mathlib.Core.Bool.{Bool, true, false, cond}
+use mathlib.Core.Bool.{true, cond}
 use Prim.Native.Nat.{ℕ, _+_, _-_, _≤_, _<_}
 use native.Mathlib.Omega.{arith}
 use lib.ListN.{length}
 use lib.Seq.{getD-set-same, getD-set-other}
 use lib.Dec.{eqb, lit<}
 use Rattle.rules.specs.Limits.{RECEIPT-LEN, LAST-TIME-MS, SYSTEM-FROZEN, GRANTED, WALLETS, ESCROWS, RECEIPTS, BALANCE, FROZEN, TX-CAP, DAILY-CAP}
-use Rattle.rules.specs.Limits.{AUTO-OR-FREEZE, ESCROW-STATE, IS-OPEN, RELEASED, REFUNDED, DISPUTED}
+use Rattle.rules.specs.Limits.{AUTO-OR-FREEZE, ESCROW-STATE, IS-OPEN}
 use Rattle.rules.specs.Table.{rowsIn}
 use Rattle.rules.specs.Ledger.{Edition, Ledger, head, escrow, walletCount, escrowCount, receiptCount, walletRow, putHead, putWallet, newEscrow, newReceipt}
 use Rattle.rules.specs.Record.{bit}
@@ -44,10 +44,9 @@ module _ (E : Said) (L : Ledger) (B : Book) (g : Good L) (f : Fits L B) (wide : 
   pub fits-grant : Fits (grant (E .submission) L .after) (grants E B)
   unfolding s K grant raise putWallet putHead grants
   fits-grant =
-      let t : ℕ = head L GRANTED + s .amount in
-      fits-make _ (grants E B) (walletCount K) t (escrowCount K) (receiptCount K) (getD-set-other (K .header) GRANTED WALLETS t 0 (omega arith))
-      (getD-set-same (K .header) GRANTED t 0 (omega (arith, en .header))) (getD-set-other (K .header) GRANTED ESCROWS t 0 (omega arith))
-      (getD-set-other (K .header) GRANTED RECEIPTS t 0 (omega arith))
+      fits-make _ (grants E B) (walletCount K) (head L GRANTED + s .amount) (escrowCount K) (receiptCount K) (getD-set-other (K .header) GRANTED WALLETS _ 0 (omega arith))
+      (getD-set-same (K .header) GRANTED _ 0 (omega (arith, en .header))) (getD-set-other (K .header) GRANTED ESCROWS _ 0 (omega arith))
+      (getD-set-other (K .header) GRANTED RECEIPTS _ 0 (omega arith))
       (acc-grant E (K .wallets) (walletCount K) (head L GRANTED) B
       (subst (λ (x : ℕ). AccOf (K .wallets) (walletCount K) x B) (en .others GRANTED (omega arith)) (fits-K .acc)) (en .good .wallets-in) (en .found))
       (fits-K .escs) (fits-K .recs)
@@ -96,15 +95,15 @@ module _ (E : Said) (L : Ledger) (B : Book) (g : Good L) (f : Fits L B) where
   module _ (i< : E .submission .target - 1 < escrowCount L) (open-i : eqb (escrow L (E .submission .target - 1) ESCROW-STATE) IS-OPEN ≡ true) where
     pub fits-release : Fits (release (E .submission) L .after) (releases E B)
     unfolding release releases
-    fits-release = fits-end L B g f (E .submission .target - 1) i< (sym (f .escs .live _ i<) ∙ open-i) RELEASED (E .submission .now) (E .submission .signer) refl
+    fits-release = fits-end L B g f (E .submission .target - 1) i< (sym (f .escs .live _ i<) ∙ open-i) _ _ _ refl
 
     pub fits-refund : Fits (refund (E .submission) L .after) (refunds E B)
     unfolding refund refunds
-    fits-refund = fits-end L B g f (E .submission .target - 1) i< (sym (f .escs .live _ i<) ∙ open-i) REFUNDED (E .submission .now) (E .submission .signer) refl
+    fits-refund = fits-end L B g f (E .submission .target - 1) i< (sym (f .escs .live _ i<) ∙ open-i) _ _ _ refl
 
   pub fits-dispute : E .submission .target - 1 < receiptCount L → Fits (dispute (E .submission) L .after) (disputes E B)
   unfolding dispute disputes
-  fits-dispute i< = fits-close L B g f (E .submission .target - 1) i< DISPUTED (E .submission .now) (E .submission .signer) refl
+  fits-dispute i< = fits-close L B g f (E .submission .target - 1) i< _ _ _ refl
 
   -- an accept's word names the escrow that its receipt released
   pub fits-accepts : E .submission .target - 1 < receiptCount L → E .submission .now ≤ LAST-TIME-MS → E .word ≡ accept (E .submission) L .word
