@@ -1,14 +1,14 @@
 -- One call of `submit`: it is refused and leaves the ledger, or settled, and then the conditions that did not hold say what is needed. A
 -- record that is read is well-formed; a well-formed one has an operation of 1 to 11, and a signer exactly if it is no sweep.
-use mathlib.Core.Path.{_≡_, refl, sym, ap, _∙_, subst}
+use mathlib.Core.Path.{_≡_, refl, sym, subst}
 use mathlib.Core.Logic.{_≢_}
 use mathlib.Core.List.{List, [], _∷_}
-use mathlib.Core.Bool.{Bool, true, false, not, cond, _&&_, _||_, true≢false}
+use mathlib.Core.Bool.{Bool, true, false, not, _&&_, _||_, true≢false}
 use Prim.Native.Nat.{ℕ, zero, suc, _≤_, _<_}
 use native.Mathlib.Omega.{arith}
 use lib.ListN.{getD, length}
-use lib.Dec.{eqb, ltb, leb}
-use borrow.Author.Tests.{eqb-true, eqb-false, eq-eqb, ne-eqb, leb-true, leb-false}
+use lib.Dec.{eqb}
+use borrow.Author.Tests.{eqb-true, eqb-false, ne-eqb, leb-true, leb-false}
 use Rattle.rules.specs.Limits.{JOURNAL-LEN, RECORD-BYTES, MARK-0, MARK-1, LAST-TIME-MS}
 use Rattle.rules.specs.Limits.{GRANT, TRANSFER, OPEN, RELEASE, REFUND, CLAIM, ACCEPT, DISPUTE, SWEEP, FREEZE, CAPS}
 use Rattle.rules.specs.Table.{rowsIn, every}
@@ -20,7 +20,7 @@ use Rattle.rules.specs.Settle.{Done, settle}
 use Rattle.rules.specs.Submit.{answerOf, finish, submitRead, submit}
 use Rattle.rules.specs.declared.Submission.{Submission}
 use Rattle.rules.specs.declared.Read.{Read}
-use Rattle.rules.proofs.Bools.{and-snd, or-other, not-false-true, not-true-false, all-at, cond-case}
+use Rattle.rules.proofs.Bools.{or-other, not-false-true, not-true-false, all-at, cond-case}
 use Rattle.rules.proofs.Counts.{every-at}
 use Rattle.rules.proofs.Refused.{passed}
 
@@ -81,7 +81,8 @@ pub read-formed : (b : List ℕ) → eqb (readOf b .number) 3 ≡ false → well
 unfolding readOf accepted
 read-formed b =
     cond-case (λ (r : Read). eqb (r .number) 3 ≡ false → wellFormed (r .submission) ≡ true) (accepted b)
-    (record { number = 0; submission = decode b }) (record { number = 3; submission = nothing }) (λ e h. all-at (eqb (length b) RECORD-BYTES ∷ eqb (getD b 0 0) MARK-0 ∷ eqb (getD b 1 0) MARK-1 ∷ wellFormed (decode b) ∷ []) e 3)
+    (record { number = 0; submission = decode b }) (record { number = 3; submission = nothing })
+    (λ e h. all-at (eqb (length b) RECORD-BYTES ∷ eqb (getD b 0 0) MARK-0 ∷ eqb (getD b 1 0) MARK-1 ∷ wellFormed (decode b) ∷ []) e 3)
     (λ e h. absurd (true≢false h))
 
 pub record Formed (s : Submission) : Type 0 where

@@ -1,10 +1,10 @@
 -- Three good tables stay good where words of wallets are set, where credits are locked for a new escrow, and where a receipt is claimed. The
 -- laws name tables and counts only; SoundStays says the same of ledgers. (That the ends of escrows and receipts keep them good is in Ends.)
-use mathlib.Core.Path.{_≡_, refl, sym, ap, ap₂, _∙_, subst, subst₂}
+use mathlib.Core.Path.{_≡_, sym, ap, ap₂, _∙_, subst, subst₂}
 use mathlib.Core.Logic.{_≢_}
 use mathlib.Core.List.{List, [], _∷_}
-use mathlib.Core.Bool.{Bool, true, false, cond, _&&_}
-use Prim.Native.Nat.{ℕ, _+_, _-_, _*_, _/_, _≤_, _<_}
+use mathlib.Core.Bool.{Bool, cond, _&&_}
+use Prim.Native.Nat.{ℕ, _+_, _-_, _/_, _≤_, _<_}
 use native.Mathlib.Decide.{ℕ-discrete}
 use native.Mathlib.Omega.{arith}
 use lib.ListN.{getD, length}
@@ -16,8 +16,8 @@ use Rattle.rules.specs.Table.{word, put, putRow, rowsIn, sum}
 use Rattle.rules.specs.Ledger.{rowOf}
 use Rattle.rules.proofs.Rows.{rows-fit, room, word-col, word-new, word-old, length-put, length-put-row, put-prop}
 use Rattle.rules.proofs.Counts.{sum-ext, sum-step}
-use Rattle.rules.proofs.Accounts.{bal, total, row-put, bal-put-col, total-put-col, Distinct}
-use Rattle.rules.proofs.Moves.{up, mv, length-mv, mv-bal, mv-total, up-bal, up-total, held-at, and-true, eqb-sym}
+use Rattle.rules.proofs.Accounts.{bal, total, row-put, Distinct}
+use Rattle.rules.proofs.Moves.{mv, mv-bal, mv-total, held-at, and-true, eqb-sym}
 use Rattle.rules.proofs.Good.{State, WRow, ERow, RRow, Parties, GoodTables}
 
 -- ---- words of wallets set, but no id
@@ -86,7 +86,7 @@ moved-tables ws nw g es len ne rs nr ws′ g′ good m locked totals most = reco
 -- ---- a new row, and the old ones
 
 -- what holds of row n, and of the rows before it, holds of every row below n + 1
-new-or-old : (Q : ℕ → Type 0) (n j : ℕ) → j < n + 1 → Q n → (j < n → Q j) → Q j
+pub new-or-old : (Q : ℕ → Type 0) (n j : ℕ) → j < n + 1 → Q n → (j < n → Q j) → Q j
 new-or-old Q n j h new old = go (ℕ-discrete j n)
   where
     go : Dec (j ≡ n) → Q j

@@ -1,9 +1,9 @@
 -- What a settled submission has passed, by operation: each fact is a refusal that did not hold, asked by its number. A fact about operations
 -- 1 to 3, say, takes `ap (oneOf (GRANT ∷ TRANSFER ∷ OPEN ∷ [])) e` for the operation's equation e.
-use mathlib.Core.Path.{_≡_, refl, sym, ap, _∙_, subst}
+use mathlib.Core.Path.{_≡_, ap, subst}
 use mathlib.Core.Logic.{_≢_}
-use mathlib.Core.List.{List, [], _∷_}
-use mathlib.Core.Bool.{Bool, true, false, not, cond, _&&_, _||_}
+use mathlib.Core.List.{[], _∷_}
+use mathlib.Core.Bool.{Bool, true, false, not, _&&_, _||_}
 use Prim.Native.Nat.{ℕ, _+_, _-_, _≤_, _<_}
 use native.Mathlib.Omega.{arith}
 use lib.Dec.{eqb, ltb, leb}
@@ -13,7 +13,7 @@ use Rattle.rules.specs.Limits.{GRANT, TRANSFER, OPEN, CLAIM, ACCEPT, DIS
 use Rattle.rules.specs.Table.{rowsIn}
 use Rattle.rules.specs.Ledger.{Ledger, head, escrow, walletCount, escrowCount, receiptCount, walletRow, hasWallet, walletOf, written}
 use Rattle.rules.specs.Sound.{between}
-use Rattle.rules.specs.Refusals.{refusals, entryRefusals, envelopeRefusals, operationRefusals, oneOf, on, paying, closing, linked, ofEscrow, releasable}
+use Rattle.rules.specs.Refusals.{refusals, entryRefusals, envelopeRefusals, operationRefusals, oneOf, on, paying, closing, ofEscrow, releasable}
 use Rattle.rules.specs.Submit.{answerOf}
 use Rattle.rules.specs.declared.Submission.{Submission}
 use Rattle.rules.specs.declared.Read.{Read}

@@ -2,18 +2,18 @@
 use mathlib.Core.Path.{_≡_, refl, sym, ap, _∙_, subst, subst₃}
 use mathlib.Core.Logic.{_≢_}
 use mathlib.Core.List.{List, [], _∷_}
-use mathlib.Core.Bool.{Bool, true, false, cond}
-use Prim.Native.Nat.{ℕ, zero, suc, _+_, _-_, _*_, _≤_, _<_}
+use mathlib.Core.Bool.{Bool, true, false}
+use Prim.Native.Nat.{ℕ, _+_, _-_, _≤_, _<_}
 use native.Mathlib.Omega.{arith}
-use lib.ListN.{getD, set, length}
+use lib.ListN.{getD, length}
 use lib.Seq.{getD-set-same, getD-set-other}
 use lib.Dec.{eqb, lit<, lit≤}
-use borrow.Author.Tests.{leb-true, eqb-true, eqb-false}
-use Rattle.rules.specs.Limits.{WALLET-LEN, RECEIPT-LEN, LAST-TIME-MS, SYSTEM-FROZEN, GRANTED, WALLETS, ESCROWS, RECEIPTS, ID, BALANCE, LOCKED, FROZEN, TX-CAP, DAILY-CAP}
-use Rattle.rules.specs.Limits.{IS-OPEN, RELEASED, REFUNDED, PENDING, DISPUTED, AUTO-OR-FREEZE, RECEIPT-LINK}
-use Rattle.rules.specs.Limits.{GRANT, TRANSFER, OPEN, RELEASE, REFUND, CLAIM, ACCEPT, DISPUTE, SWEEP, FREEZE, CAPS}
-use Rattle.rules.specs.Table.{word, put, putRow, rowsIn}
-use Rattle.rules.specs.Ledger.{Edition, Ledger, head, escrow, walletCount, escrowCount, receiptCount, rowOf, walletRow, putHead, putWallet, newEscrow, newReceipt}
+use borrow.Author.Tests.{eqb-true, eqb-false}
+use Rattle.rules.specs.Limits.{WALLET-LEN, SYSTEM-FROZEN, GRANTED, WALLETS, ESCROWS, RECEIPTS, BALANCE, LOCKED, FROZEN, TX-CAP, DAILY-CAP}
+use Rattle.rules.specs.Limits.{IS-OPEN, RELEASED, REFUNDED, PENDING, DISPUTED, AUTO-OR-FREEZE}
+use Rattle.rules.specs.Limits.{GRANT, TRANSFER, OPEN, CLAIM, ACCEPT, DISPUTE}
+use Rattle.rules.specs.Table.{put, rowsIn}
+use Rattle.rules.specs.Ledger.{Edition, Ledger, head, walletCount, escrowCount, receiptCount, walletRow, putHead, putWallet, newEscrow, newReceipt}
 use Rattle.rules.specs.Record.{bit}
 use Rattle.rules.specs.Refusals.{oneOf, paying, closing}
 use Rattle.rules.specs.Settle.{raise, lower, ensureWallet, endEscrow, operations, idle, operate, grant, transfer, openEscrow, release, refund, claim, accept, dispute, sweep, freeze, caps}
@@ -25,7 +25,7 @@ use Rattle.rules.proofs.Rows.{rows-fit}
 use Rattle.rules.proofs.Accounts.{bal, bal-found, bal-put-col, total-put-col}
 use Rattle.rules.proofs.Moves.{up, mv, up-bal, up-total, mv-bal, mv-total}
 use Rattle.rules.proofs.Good.{GoodTables, Good, good-of}
-use Rattle.rules.proofs.GoodRows.{Moved, moved-put, moved-then, moved-tables, open-tables, claim-tables}
+use Rattle.rules.proofs.GoodRows.{moved-put, moved-then, moved-tables, open-tables, claim-tables}
 use Rattle.rules.proofs.Stays.{kept-end, kept-close, kept-accept, kept-sweep}
 use Rattle.rules.proofs.Ensured.{Ensured, ensured}
 use Rattle.rules.proofs.Calls.{settled, Formed, by-op}
@@ -33,7 +33,7 @@ use Rattle.rules.proofs.Passed.{amount-low, amount-high, sender-row, se
 use Rattle.rules.proofs.Passed.{written-row, link-from, link-to, receipt-row, grant-within, wallet-place, escrow-place, receipt-place}
 
 -- tables that are good with the counts and the total that the header has
-good-counts : (K : Ledger) (nw g ne nr : ℕ) → walletCount K ≡ nw → head K GRANTED ≡ g → escrowCount K ≡ ne → receiptCount K ≡ nr
+pub good-counts : (K : Ledger) (nw g ne nr : ℕ) → walletCount K ≡ nw → head K GRANTED ≡ g → escrowCount K ≡ ne → receiptCount K ≡ nr
     → GoodTables (K .wallets) nw g (K .escrows) (K .edition .escrowLen) ne (K .receipts) nr → Good K
 good-counts K nw g ne nr a b c d good =
     subst (λ (x : ℕ). GoodTables (K .wallets) (walletCount K) x (K .escrows) (K .edition .escrowLen) (escrowCount K) (K .receipts) (receiptCount K)) (sym b)
@@ -102,7 +102,10 @@ module _ (L : Ledger) (r : Read) (z : answerOf L r ≡ 0) (form : Formed (r .sub
       (mv (K .wallets) (walletCount K) BALANCE (s .signer) BALANCE (s .target) (s .amount)) (head K GRANTED) (en .good)
       (moved-then (moved-put (K .wallets) (walletCount K) _ BALANCE _ (lit< tt) (omega arith) (λ q. absurd (omega arith)))
       (moved-put _ (walletCount K) _ BALANCE _ (lit< tt) (omega arith) (λ q. absurd (omega arith))))
-      (λ w. omega (arith, mv-bal (K .wallets) (walletCount K) BALANCE (s .signer) BALANCE (s .target) (s .amount) (lit≤ tt) (lit≤ tt) (lit≤ tt) (lit≤ tt) fits from (en .found) (enough en t) LOCKED w (lit< tt)))
+      (λ w. omega (
+        arith,
+        mv-bal (K .wallets) (walletCount K) BALANCE (s .signer) BALANCE (s .target) (s .amount) (lit≤ tt) (lit≤ tt) (lit≤ tt) (lit≤ tt) fits from (en .found) (enough en t) LOCKED w (lit< tt),
+      ))
       (mv-total (K .wallets) (walletCount K) BALANCE (s .signer) BALANCE (s .target) (s .amount) (lit≤ tt) (lit≤ tt) (lit≤ tt) (lit≤ tt) fits from (en .found) (enough en t) ∙ en .good .totals)
       (en .good .most)
 
