@@ -2,10 +2,10 @@
 use mathlib.Core.Path.{_≡_, refl, subst}
 use mathlib.Core.List.{List}
 use mathlib.Core.Bool.{Bool, true, false, not, cond, _&&_, _||_, or-false}
-use Prim.Native.Nat.{ℕ, _+_, _-_, _/_, _%_, _≤_, _<_}
+use Prim.Native.Nat.{ℕ, _+_, _-_, _≤_}
 use native.Mathlib.Omega.{arith}
 use lib.ListN.{getD}
-use lib.Dec.{T, eqb, ltb, leb}
+use lib.Dec.{T, eqb, ltb}
 use Rattle.rules.specs.Limits.{GRANT, SWEEP, FREEZE, CAPS, SIGNATURE-HELD, ADMIN, SYSTEM-FROZEN, CLOCK, ENTRIES, MAX-SKEW-MS, MAX-ENVELOPE-MS}
 use Rattle.rules.specs.Table.{every}
 use Rattle.rules.specs.Ledger.{ledger}

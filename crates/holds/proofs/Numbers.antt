@@ -4,17 +4,15 @@ use mathlib.Core.Bool.{Bool, true, false, cond, _&&_}
 use Prim.Native.Nat.{ℕ, _-_, _^_, _≤_, _<_}
 use native.Mathlib.Omega.{arith}
 use lib.Dec.{ltb, leb}
-use borrow.Author.Tests.{ltb-true, leb-true}
+use borrow.Author.Tests.{ltb-true}
 use Rattle.rules.specs.Ledger.{written}
-use Rattle.rules.proofs.Bools.{and-fst, and-snd}
+use Rattle.rules.proofs.Bools.{and-fst}
+use Rattle.rules.proofs.Passed.{written-row}
 use Rattle.holds.specs.Named.{rowNamed}
 
 -- a number that names one of n rows
 pub written-low : (n k : ℕ) → written n k ≡ true → 1 ≤ k
 written-low n k t = ltb-true 0 k (and-fst (ltb 0 k) (leb k n) t)
-
-pub written-high : (n k : ℕ) → written n k ≡ true → k ≤ n
-written-high n k t = leb-true k n (and-snd (ltb 0 k) (leb k n) t)
 
 -- the row that it names, or row 0
 pub named-small : (n k row : ℕ) → n ≤ 4096 → row ≡ rowNamed n k → row < 2 ^ 32
@@ -24,7 +22,7 @@ named-small n k row few e = go (written n k) refl
     go : (t : Bool) → written n k ≡ t → row < 2 ^ 32
     go true x =
         let y : row ≡ k - 1 = rw x at e in
-        omega (arith, written-high n k x)
+        omega (arith, written-row n k x)
     go false x =
         let y : row ≡ 0 = rw x at e in
         omega arith

@@ -5,11 +5,7 @@ use Prim.Native.Nat.{ℕ, _^_, _≤_, _<_}
 use native.Mathlib.Omega.{arith}
 use Rattle.rules.specs.Limits.{MAX-WALLETS}
 use Rattle.rules.specs.Ledger.{rowOf}
-use Rattle.rules.proofs.Seek.{seek-le}
-
-row-le : (w : List ℕ) (n id : ℕ) → rowOf w n id ≤ n
-unfolding rowOf
-row-le w n id = seek-le n _
+use Rattle.rules.proofs.Accounts.{row-le}
 
 -- the row of a wallet, or the count
 pub found-small : (w : List ℕ) (n id row : ℕ) → n ≤ MAX-WALLETS → row ≡ rowOf w n id → row < 2 ^ 32

@@ -2,7 +2,7 @@
 -- what the calls ensure, in their order.
 use mathlib.Core.Path.{_≡_, sym, _∙_}
 use mathlib.Core.List.{List, [], _∷_}
-use mathlib.Core.Bool.{Bool, not, cond, _&&_, _||_, or-false}
+use mathlib.Core.Bool.{Bool, not, cond, _&&_, or-false}
 use Prim.Native.Nat.{ℕ, _+_}
 use lib.ListN.{getD}
 use lib.Dec.{eqb, ltb}

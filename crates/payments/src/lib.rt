@@ -23,10 +23,9 @@ use rules::limits::MAX_HOLD_MS;
 use rules::limits::OPEN;
 use rules::limits::TX_CAP;
 use rules::limits::WALLET_LEN;
+use rules::limits::WALLETS;
 
 mod sums;
-
-use rules::limits::WALLETS;
 
 // A grant: checks 12, 15, 36, 37, 40.
 pub fn grant_refusal(header: &[u64], wallets: &[u64], journal: &[u64], s: Submission) -> u64

@@ -1,27 +1,27 @@
 -- What the checks use of a sound ledger and a well-formed record, in plain numbers.
-use mathlib.Core.Path.{_≡_, refl, sym, _∙_}
+use mathlib.Core.Path.{_≡_}
 use mathlib.Core.List.{List, [], _∷_}
-use mathlib.Core.Bool.{Bool, true, false, not, _&&_, _||_}
+use mathlib.Core.Bool.{true, not, _||_}
 use Prim.Native.Nat.{ℕ, _*_, _%_, _≤_, _<_}
 use native.Mathlib.Nat.{le-trans}
 use native.Mathlib.Omega.{arith}
 use lib.ListN.{getD, length}
-use lib.Dec.{eqb, ltb, leb}
-use borrow.Author.Tests.{leb-true, eqb-true, eq-eqb}
-use Rattle.rules.specs.Limits.{WALLET-LEN, RECEIPT-LEN, JOURNAL-LEN, MAX-WALLETS, MAX-ESCROWS, MAX-RECEIPTS, MAX-ENTRIES, MAX-AMOUNT-MICRO, LAST-TIME-MS}
-use Rattle.rules.specs.Limits.{WALLETS, ESCROWS, RECEIPTS, ENTRIES, OPERATION, ENTRY-AMOUNT, SETTLED-AT, TRANSFER, OPEN, CAPS}
-use Rattle.rules.specs.Table.{word, rowsIn, tableRight, all}
+use lib.Dec.{eqb, leb}
+use borrow.Author.Tests.{leb-true, eqb-true}
+use Rattle.rules.specs.Limits.{WALLET-LEN, JOURNAL-LEN, MAX-WALLETS, MAX-ESCROWS, MAX-RECEIPTS, MAX-AMOUNT-MICRO, LAST-TIME-MS}
+use Rattle.rules.specs.Limits.{WALLETS, ESCROWS, RECEIPTS, ENTRIES, TRANSFER, OPEN, CAPS}
+use Rattle.rules.specs.Table.{rowsIn, tableRight}
 use Rattle.rules.specs.Ledger.{Ledger, ledger, lengthTests, lengthsRight}
 use Rattle.rules.specs.Sound.{headerTests, entryTests, soundTests, sound, between}
 use Rattle.rules.specs.Record.{formTests, wellFormed}
 use Rattle.rules.specs.declared.Submission.{Submission}
 use Rattle.rules.proofs.Bools.{all-at, and-snd}
-use Rattle.rules.proofs.Counts.{every-at}
 use Rattle.rules.proofs.Rows.{rows-fit}
+use Rattle.rules.proofs.SoundParts.{journal-of}
 use Rattle.payments.specs.Entries.{Entries}
 use Rattle.refusals.specs.Ready.{Ready}
 
-module _ (h w e r j : List ℕ) (s : Submission) (given : Ready (ledger h w e r j) s) where
+module _ {h w e r j : List ℕ} {s : Submission} (given : Ready (ledger h w e r j) s) where
   abbrev L : Ledger
   L = ledger h w e r j
 
@@ -29,12 +29,9 @@ module _ (h w e r j : List ℕ) (s : Submission) (given : Ready (ledger h w e r 
   unfolding lengthsRight
   length-test = all-at (lengthTests L) (given .lengths)
 
-  sound-test : (k : ℕ) → getD (soundTests L) k true ≡ true
-  unfolding sound
-  sound-test = all-at (soundTests L) (given .right)
-
   header-test : (k : ℕ) → getD (headerTests L) k true ≡ true
-  header-test = all-at (headerTests L) (sound-test 0)
+  unfolding sound
+  header-test = all-at (headerTests L) (all-at (soundTests L) (given .right) 0)
 
   form-test : (k : ℕ) → getD (formTests s) k true ≡ true
   unfolding wellFormed
@@ -65,7 +62,7 @@ module _ (h w e r j : List ℕ) (s : Submission) (given : Ready (ledger h w e r 
   journal-fit = rows-fit JOURNAL-LEN (getD h ENTRIES 0) j (leb-true _ _ (header-test 6))
 
   entry-test : (i : ℕ) → i < getD h ENTRIES 0 → (k : ℕ) → getD (entryTests L i) k true ≡ true
-  entry-test i l = all-at (entryTests L i) (every-at (getD h ENTRIES 0) (λ i. all (entryTests L i)) (sound-test 5) i l)
+  entry-test i l = all-at (entryTests L i) (journal-of L (given .right) .rows i l)
 
   transfer-amount : (op amount : ℕ) → op ≡ TRANSFER → not (eqb op TRANSFER || eqb op OPEN) || between 1 MAX-AMOUNT-MICRO amount ≡ true → amount ≤ MAX-AMOUNT-MICRO
   transfer-amount op amount o t =

@@ -1,10 +1,9 @@
 // Checks 4 to 40 on a ledger that is sound and a record that is well formed: the number of the first that holds, or 0. A family of
 // operations is one strict group: each of its conditions is worked out, and then the first that holds is picked, from the last to the first.
 ghost use mathlib.Core.Path.{_≡_};
-ghost use mathlib.Core.List.{_++_};
 ghost use Rattle.rules.specs.Ledger.{ledger};
-ghost use Rattle.rules.specs.Refusals.{first, envelopeRefusals, operationRefusals};
-ghost use Rattle.refusals.specs.Ready.{Ready};
+ghost use Rattle.rules.specs.Refusals.{first, operationRefusals};
+ghost use Rattle.refusals.specs.Ready.{Ready, laterRefusals};
 use rules::Submission;
 use rules::limits::ACCEPT;
 use rules::limits::CAPS;
@@ -19,6 +18,7 @@ use rules::limits::SWEEP;
 use rules::limits::TRANSFER;
 
 mod admin;
+
 // Checks 12 to 40, by the operation.
 fn operation_refusal(
     header: &[u64],
@@ -55,7 +55,7 @@ pub fn refusal(
     s: Submission,
 ) -> u64
     requires { ⌜ Ready (ledger (now header) (now wallets) (now escrows) (now receipts) (now journal)) s ⌝ }
-    ensures { λ x. ⌜ x ≡ first (envelopeRefusals (ledger (now (header .entry)) (now (wallets .entry)) (now (escrows .entry)) (now (receipts .entry)) (now (journal .entry))) s ++ operationRefusals (ledger (now (header .entry)) (now (wallets .entry)) (now (escrows .entry)) (now (receipts .entry)) (now (journal .entry))) s) ⌝ }
+    ensures { λ x. ⌜ x ≡ first (laterRefusals (ledger (now (header .entry)) (now (wallets .entry)) (now (escrows .entry)) (now (receipts .entry)) (now (journal .entry))) s) ⌝ }
 {
     let number = envelope::envelope_refusal(header, journal, s);
     if number != 0 {

@@ -54,7 +54,17 @@ choose-requires-8 c κs = search needs
 returns : tie.Need-returns
 returns c =
     let p = c .before .before .before .before .before .before .before .before .before .before .before .before .before .before .before .before .before .before .before .before .before .before .before .before .before .before .before .before .pre in
-    λ w e r. refusal-by _ w e r _ _ _ _ _ _ _ _ _ _ _ (p .2) (p .3) (c .before .before .before .before .before .before .before .before .before .before .before .before .before .before .before .before .before .before .before .before .before .before .seen .ensures) (c .before .before .before .before .before .before .before .choose .ensures) (c .before .before .before .before .before .before .choose2 .ensures) (c .before .before .before .before .before .choose3 .ensures) (c .before .before .before .before .choose4 .ensures) (c .before .before .before .choose5 .ensures) (c .before .before .choose6 .ensures) (c .before .choose7 .ensures) (c .choose8 .ensures)
+    λ w e r. refusal-by _ w e r _ _ _ _ _ _ _ _ _ _ _
+    (p .2) (p .3)
+    (c .before .before .before .before .before .before .before .before .before .before .before .before .before .before .before .before .before .before .before .before .before .before .seen .ensures)
+    (c .before .before .before .before .before .before .before .choose .ensures)
+    (c .before .before .before .before .before .before .choose2 .ensures)
+    (c .before .before .before .before .before .choose3 .ensures)
+    (c .before .before .before .before .choose4 .ensures)
+    (c .before .before .before .choose5 .ensures)
+    (c .before .before .choose6 .ensures)
+    (c .before .choose7 .ensures)
+    (c .choose8 .ensures)
 
 pub envelope-refusal-spec : {M : Type 1} → statement M
 envelope-refusal-spec =

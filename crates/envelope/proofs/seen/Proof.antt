@@ -4,8 +4,6 @@ use mathlib.Core.Path.{_≡_}
 use mathlib.Core.Bool.{false}
 use native.Mathlib.Omega.{arith}
 use borrow.Author.Needs.{needs}
-use denote.Ref.{now}
-use Rattle.rules.proofs.Rows.{in-table}
 use Rattle.envelope.specs.Seen.{seenIn}
 use Rattle.envelope.proofs.Search.{seen-none, seen-next, seen-here, seen-not}
 use Rattle.envelope.proofs.seen.Statement.{statement}

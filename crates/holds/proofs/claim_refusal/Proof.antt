@@ -88,7 +88,29 @@ choose-requires-12 : tie.Need-choose-requires-12
 choose-requires-12 c κs = search needs
 
 returns : tie.Need-returns
-returns c = claim-by _ _ _ _ _ _ _ _ _ _ _ _ _ _ _ _ _ _ _ _ _ _ _ _ _ (c .before .before .before .before .before .before .before .before .before .before .before .before .before .before .before .before .before .before .before .before .before .before .before .before .before .before .before .before .before .before .before .before .before .before .before .before .before .before .before .before .before .before .pre .4) (c .before .before .before .before .before .before .before .before .before .before .before .before .before .before .before .before .before .before .before .before .before .before .before .before .before .before .before .before .before .before .before .before .find-row .ensures) (c .before .before .before .before .before .before .before .before .before .before .before .before .before .before .before .before .before .before .before .before .before .before .before .before .before .before .before .before .before .before .before .find-row2 .ensures) (c .before .before .before .before .before .before .before .before .before .before .before .before .before .before .before .before .before .before .before .before .before .before .before .before .before .before .before .before .before .before .row-of .ensures) (c .before .before .before .before .before .before .before .before .before .before .before .before .before .before .before .before .before .before .before .before .before .before .before .before .before .before .before .before .before .get .ensures) (c .before .before .before .before .before .before .before .before .before .before .before .before .before .before .before .before .before .before .before .before .before .before .before .before .before .before .before .before .get2 .ensures) (c .before .before .before .before .before .before .before .before .before .before .before .before .before .before .before .before .before .before .before .before .before .before .before .before .before .before .before .get3 .ensures) (c .before .before .before .before .before .before .before .before .before .before .before .before .before .before .before .before .before .before .before .before .before .before .before .before .before .before .get4 .ensures) (c .before .before .before .before .before .before .before .before .before .before .before .choose .ensures) (c .before .before .before .before .before .before .before .before .before .before .choose2 .ensures) (c .before .before .before .before .before .before .before .before .before .choose3 .ensures) (c .before .before .before .before .before .before .before .before .choose4 .ensures) (c .before .before .before .before .before .before .before .choose5 .ensures) (c .before .before .before .before .before .before .choose6 .ensures) (c .before .before .before .before .before .choose7 .ensures) (c .before .before .before .before .choose8 .ensures) (c .before .before .before .choose9 .ensures) (c .before .before .choose10 .ensures) (c .before .choose11 .ensures) (c .choose12 .ensures)
+returns c =
+    let read = c .before .before .before .before .before .before .before .before .before .before .before .before .before .before .before .before .before .before .before .before .before .before .before .before .before .before in
+    claim-by _ _ _ _ _ _ _ _ _ _ _ _ _ _ _ _ _ _ _ _ _ _ _ _ _
+    (read .before .before .before .before .before .before .before .before .before .before .before .before .before .before .before .before .pre .4)
+    (read .before .before .before .before .before .before .find-row .ensures)
+    (read .before .before .before .before .before .find-row2 .ensures)
+    (read .before .before .before .before .row-of .ensures)
+    (read .before .before .before .get .ensures)
+    (read .before .before .get2 .ensures)
+    (read .before .get3 .ensures)
+    (read .get4 .ensures)
+    (c .before .before .before .before .before .before .before .before .before .before .before .choose .ensures)
+    (c .before .before .before .before .before .before .before .before .before .before .choose2 .ensures)
+    (c .before .before .before .before .before .before .before .before .before .choose3 .ensures)
+    (c .before .before .before .before .before .before .before .before .choose4 .ensures)
+    (c .before .before .before .before .before .before .before .choose5 .ensures)
+    (c .before .before .before .before .before .before .choose6 .ensures)
+    (c .before .before .before .before .before .choose7 .ensures)
+    (c .before .before .before .before .choose8 .ensures)
+    (c .before .before .before .choose9 .ensures)
+    (c .before .before .choose10 .ensures)
+    (c .before .choose11 .ensures)
+    (c .choose12 .ensures)
 
 pub claim-refusal-spec : {M : Type 1} → statement M
 claim-refusal-spec =

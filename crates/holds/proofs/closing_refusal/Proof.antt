@@ -41,7 +41,18 @@ choose-requires-4 : tie.Need-choose-requires-4
 choose-requires-4 c κs = search needs
 
 returns : tie.Need-returns
-returns c = λ w r. closing-by _ w _ r _ _ _ _ _ _ _ _ _ _ (c .before .before .before .before .before .before .before .before .before .before .before .before .before .before .before .before .before .before .pre .2) (c .before .before .before .before .before .before .before .before .before .before .before .before .row-of .ensures) (c .before .before .before .before .before .before .before .before .before .before .before .get .ensures) (c .before .before .before .before .before .before .before .before .before .before .get2 .ensures) (c .before .before .before .before .before .before .before .before .before .get3 .ensures) (c .before .before .before .choose .ensures) (c .before .before .choose2 .ensures) (c .before .choose3 .ensures) (c .choose4 .ensures)
+returns c =
+    let read = c .before .before .before .before .before .before .before .before .before in
+    λ w r. closing-by _ w _ r _ _ _ _ _ _ _ _ _ _
+    (read .before .before .before .before .before .before .before .before .before .pre .2)
+    (read .before .before .before .row-of .ensures)
+    (read .before .before .get .ensures)
+    (read .before .get2 .ensures)
+    (read .get3 .ensures)
+    (c .before .before .before .choose .ensures)
+    (c .before .before .choose2 .ensures)
+    (c .before .choose3 .ensures)
+    (c .choose4 .ensures)
 
 pub closing-refusal-spec : {M : Type 1} → statement M
 closing-refusal-spec =

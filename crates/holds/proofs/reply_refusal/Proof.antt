@@ -41,7 +41,18 @@ choose-requires-5 : tie.Need-choose-requires-5
 choose-requires-5 c κs = search needs
 
 returns : tie.Need-returns
-returns c = λ w e. reply-by _ w e _ _ _ _ _ _ _ _ _ _ _ (c .before .before .before .before .before .before .before .before .before .before .before .before .before .before .before .before .before .before .pre .2) (c .before .before .before .before .before .before .before .before .before .before .before .before .row-of .ensures) (c .before .before .before .before .before .before .before .before .before .before .before .get .ensures) (c .before .before .before .before .before .before .before .before .before .before .get2 .ensures) (c .before .before .before .before .choose .ensures) (c .before .before .before .choose2 .ensures) (c .before .before .choose3 .ensures) (c .before .choose4 .ensures) (c .choose5 .ensures)
+returns c =
+    let read = c .before .before .before .before .before .before .before .before .before .before in
+    λ w e. reply-by _ w e _ _ _ _ _ _ _ _ _ _ _
+    (read .before .before .before .before .before .before .before .before .pre .2)
+    (read .before .before .row-of .ensures)
+    (read .before .get .ensures)
+    (read .get2 .ensures)
+    (c .before .before .before .before .choose .ensures)
+    (c .before .before .before .choose2 .ensures)
+    (c .before .before .choose3 .ensures)
+    (c .before .choose4 .ensures)
+    (c .choose5 .ensures)
 
 pub reply-refusal-spec : {M : Type 1} → statement M
 reply-refusal-spec =

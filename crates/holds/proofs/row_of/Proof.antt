@@ -1,7 +1,6 @@
 -- `holds::row_of` meets its contract.
 use Rattle.holds.specs.Named.{rowNamed}
 use Rattle.holds.proofs.Numbers.{written-low}
-use borrow.Author.Needs.{needs}
 use Rattle.holds.proofs.row_of.Statement.{statement}
 use Rattle.holds.proofs.row_of.Tie as tie
 use Rattle.holds.proofs.row_of.Reads as reads

@@ -40,7 +40,17 @@ choose-requires-5 : tie.Need-choose-requires-5
 choose-requires-5 c κs = search needs
 
 returns : tie.Need-returns
-returns c = λ e r. grant-by _ _ e r _ _ _ _ _ _ _ _ _ (c .before .before .before .before .before .before .before .before .before .before .before .before .before .before .before .before .pre .2) (c .before .before .before .before .before .before .before .before .before .find-row .ensures) (c .before .before .before .before .before .before .before .before .exceeds .ensures) (c .before .before .before .before .choose .ensures) (c .before .before .before .choose2 .ensures) (c .before .before .choose3 .ensures) (c .before .choose4 .ensures) (c .choose5 .ensures)
+returns c =
+    let read = c .before .before .before .before .before .before .before .before in
+    λ e r. grant-by _ _ e r _ _ _ _ _ _ _ _ _
+    (read .before .before .before .before .before .before .before .before .pre .2)
+    (read .before .find-row .ensures)
+    (read .exceeds .ensures)
+    (c .before .before .before .before .choose .ensures)
+    (c .before .before .before .choose2 .ensures)
+    (c .before .before .choose3 .ensures)
+    (c .before .choose4 .ensures)
+    (c .choose5 .ensures)
 
 pub grant-refusal-spec : {M : Type 1} → statement M
 grant-refusal-spec =

@@ -86,7 +86,30 @@ choose-requires-12 : tie.Need-choose-requires-12
 choose-requires-12 c κs = search needs
 
 returns : tie.Need-returns
-returns c = λ r. paying-by _ _ _ r _ _ _ _ _ _ _ _ _ _ _ _ _ _ _ _ _ _ _ _ _ _ (c .before .before .before .before .before .before .before .before .before .before .before .before .before .before .before .before .before .before .before .before .before .before .before .before .before .before .before .before .before .before .before .before .before .before .before .before .before .pre .5) (c .before .before .before .before .before .before .before .before .before .before .before .before .before .before .before .before .before .before .before .before .before .before .before .before .before .before .before .before .before .find-row .ensures) (c .before .before .before .before .before .before .before .before .before .before .before .before .before .before .before .before .before .before .before .before .before .before .before .before .before .before .before .before .find-row2 .ensures) (c .before .before .before .before .before .before .before .before .before .before .before .before .before .before .before .before .before .before .before .before .before .before .before .before .before .before .before .get .ensures) (c .before .before .before .before .before .before .before .before .before .before .before .before .before .before .before .before .before .before .before .before .before .before .before .before .before .before .get2 .ensures) (c .before .before .before .before .before .before .before .before .before .before .before .before .before .before .before .before .before .before .before .before .before .before .before .before .before .get3 .ensures) (c .before .before .before .before .before .before .before .before .before .before .before .before .before .before .before .before .before .before .before .before .before .before .before .before .get4 .ensures) (c .before .before .before .before .before .before .before .before .before .before .before .before .before .before .before .before .before .before .before .before .before .before .before .counted .ensures) (c .before .before .before .before .before .before .before .before .before .before .before .before .before .before .before .before .before .before .before .before .before .before .exceeds .ensures) (c .before .before .before .before .before .before .before .before .before .before .before .choose .ensures) (c .before .before .before .before .before .before .before .before .before .before .choose2 .ensures) (c .before .before .before .before .before .before .before .before .before .choose3 .ensures) (c .before .before .before .before .before .before .before .before .choose4 .ensures) (c .before .before .before .before .before .before .before .choose5 .ensures) (c .before .before .before .before .before .before .choose6 .ensures) (c .before .before .before .before .before .choose7 .ensures) (c .before .before .before .before .choose8 .ensures) (c .before .before .before .choose9 .ensures) (c .before .before .choose10 .ensures) (c .before .choose11 .ensures) (c .choose12 .ensures)
+returns c =
+    let read = c .before .before .before .before .before .before .before .before .before .before .before .before .before .before .before .before .before .before .before .before .before .before in
+    λ r. paying-by _ _ _ r _ _ _ _ _ _ _ _ _ _ _ _ _ _ _ _ _ _ _ _ _ _
+    (read .before .before .before .before .before .before .before .before .before .before .before .before .before .before .before .pre .5)
+    (read .before .before .before .before .before .before .before .find-row .ensures)
+    (read .before .before .before .before .before .before .find-row2 .ensures)
+    (read .before .before .before .before .before .get .ensures)
+    (read .before .before .before .before .get2 .ensures)
+    (read .before .before .before .get3 .ensures)
+    (read .before .before .get4 .ensures)
+    (read .before .counted .ensures)
+    (read .exceeds .ensures)
+    (c .before .before .before .before .before .before .before .before .before .before .before .choose .ensures)
+    (c .before .before .before .before .before .before .before .before .before .before .choose2 .ensures)
+    (c .before .before .before .before .before .before .before .before .before .choose3 .ensures)
+    (c .before .before .before .before .before .before .before .before .choose4 .ensures)
+    (c .before .before .before .before .before .before .before .choose5 .ensures)
+    (c .before .before .before .before .before .before .choose6 .ensures)
+    (c .before .before .before .before .before .choose7 .ensures)
+    (c .before .before .before .before .choose8 .ensures)
+    (c .before .before .before .choose9 .ensures)
+    (c .before .before .choose10 .ensures)
+    (c .before .choose11 .ensures)
+    (c .choose12 .ensures)
 
 pub paying-refusal-spec : {M : Type 1} → statement M
 paying-refusal-spec =

@@ -19,32 +19,44 @@ use Rattle.holds.proofs.closing_refusal.Reads as closing-refusal-reads
 use Rattle.holds.proofs.reply_refusal.Reads as reply-refusal-reads
 
 grant-refusal-requires : tie.Need-grant-refusal-requires
-grant-refusal-requires c κs = (header-there _ _ _ _ _ _ (c .before .before .before .before .before .before .pre), wallets-fit _ _ _ _ _ _ (c .before .before .before .before .before .before .pre), c .match .keys1)
+grant-refusal-requires c κs =
+    let start = c .before .before .before .before .before .before in
+    (header-there (start .pre), wallets-fit (start .pre), c .match .keys1)
 
 claim-refusal-requires : tie.Need-claim-refusal-requires
-claim-refusal-requires c κs = (header-there _ _ _ _ _ _ (c .before .before .before .before .before .before .pre), escrows-few _ _ _ _ _ _ (c .before .before .before .before .before .before .pre), wallets-fit _ _ _ _ _ _ (c .before .before .before .before .before .before .pre), issued-time _ _ _ _ _ _ (c .before .before .before .before .before .before .pre), c .match .keys2)
+claim-refusal-requires c κs =
+    let start = c .before .before .before .before .before .before in
+    (header-there (start .pre), escrows-few (start .pre), wallets-fit (start .pre), issued-time (start .pre), c .match .keys2)
 
 sweep-refusal-requires : tie.Need-sweep-refusal-requires
 sweep-refusal-requires c κs = search needs
 
 freeze-refusal-requires : tie.Need-freeze-refusal-requires
-freeze-refusal-requires c κs = (header-there _ _ _ _ _ _ (c .before .before .before .before .before .before .pre), wallets-fit _ _ _ _ _ _ (c .before .before .before .before .before .before .pre), c .match .keys4)
+freeze-refusal-requires c κs =
+    let start = c .before .before .before .before .before .before in
+    (header-there (start .pre), wallets-fit (start .pre), c .match .keys4)
 
 caps-refusal-requires : tie.Need-caps-refusal-requires
-caps-refusal-requires c κs = (header-there _ _ _ _ _ _ (c .before .before .before .before .before .before .pre), wallets-fit _ _ _ _ _ _ (c .before .before .before .before .before .before .pre), c .match .keys5)
+caps-refusal-requires c κs =
+    let start = c .before .before .before .before .before .before in
+    (header-there (start .pre), wallets-fit (start .pre), c .match .keys5)
 
 paying-refusal-requires : tie.Need-paying-refusal-requires
 paying-refusal-requires c κs =
-    let low : TRANSFER ≤ c .before .before .before .before .before .before .before .before .args .s .op = omega (arith, c .before .before .match .rest .0 .0 .0 .0 .1) in
-    (header-there _ _ _ _ _ _ (c .before .before .before .before .before .before .before .before .pre), wallets-few _ _ _ _ _ _ (c .before .before .before .before .before .before .before .before .pre), wallets-fit _ _ _ _ _ _ (c .before .before .before .before .before .before .before .before .pre), entries _ _ _ _ _ _ (c .before .before .before .before .before .before .before .before .pre), now-time _ _ _ _ _ _ (c .before .before .before .before .before .before .before .before .pre), either TRANSFER _ low (c .if2 .taken))
+    let start = c .before .before .before .before .before .before .before .before in
+    let low : TRANSFER ≤ start .args .s .op = omega (arith, c .before .before .match .rest .0 .0 .0 .0 .1) in
+    (header-there (start .pre), wallets-few (start .pre), wallets-fit (start .pre), entries (start .pre), now-time (start .pre), either TRANSFER _ low (c .if2 .taken))
 
 closing-refusal-requires : tie.Need-closing-refusal-requires
-closing-refusal-requires c κs = (header-there _ _ _ _ _ _ (c .before .before .before .before .before .before .before .before .before .pre), escrows-few _ _ _ _ _ _ (c .before .before .before .before .before .before .before .before .before .pre), either RELEASE _ (c .before .if2 .left) (c .if3 .taken))
+closing-refusal-requires c κs =
+    let start = c .before .before .before .before .before .before .before .before .before in
+    (header-there (start .pre), escrows-few (start .pre), either RELEASE _ (c .before .if2 .left) (c .if3 .taken))
 
 reply-refusal-requires : tie.Need-reply-refusal-requires
 reply-refusal-requires c κs =
-    let low : ACCEPT ≤ c .before .before .before .before .before .before .before .before .before .before .args .s .op = omega (arith, c .before .before .before .before .match .rest .0 .0 .0 .1) in
-    (header-there _ _ _ _ _ _ (c .before .before .before .before .before .before .before .before .before .before .pre), receipts-few _ _ _ _ _ _ (c .before .before .before .before .before .before .before .before .before .before .pre), either ACCEPT _ low (c .if4 .taken))
+    let start = c .before .before .before .before .before .before .before .before .before .before in
+    let low : ACCEPT ≤ start .args .s .op = omega (arith, c .before .before .before .before .match .rest .0 .0 .0 .1) in
+    (header-there (start .pre), receipts-few (start .pre), either ACCEPT _ low (c .if4 .taken))
 
 returns : tie.Need-returns
 returns c = c .grant-refusal .ensures _ _
@@ -72,13 +84,13 @@ returns-8 c = c .reply-refusal .ensures _ _
 
 returns-9 : tie.Need-returns-9
 returns-9 c =
-    let low : 1 ≤ c .before .before .before .before .before .before .before .args .s .op = op-low _ _ _ _ _ _ (c .before .before .before .before .before .before .before .pre) in
+    let low : 1 ≤ c .before .before .before .before .before .before .before .args .s .op = op-low (c .before .before .before .before .before .before .before .pre) in
     absurd (omega arith)
 
 returns-10 : tie.Need-returns-10
 returns-10 c =
     let no = c .before .before .before .before .match .rest in
-    absurd (no-more _ (c .if4 .left) (op-high _ _ _ _ _ _ (c .before .before .before .before .before .before .before .before .before .before .pre)) (no .0 .0 .1) (no .0 .1) (no .1))
+    absurd (no-more _ (c .if4 .left) (op-high (c .before .before .before .before .before .before .before .before .before .before .pre)) (no .0 .0 .1) (no .0 .1) (no .1))
 
 pub operation-refusal-spec : {M : Type 1} → statement M
 operation-refusal-spec =

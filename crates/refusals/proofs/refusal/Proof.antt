@@ -10,7 +10,9 @@ use Rattle.envelope.proofs.envelope_refusal.Reads as envelope-refusal-reads
 use Rattle.refusals.proofs.operation_refusal.Reads as operation-refusal-reads
 
 envelope-refusal-requires : tie.Need-envelope-refusal-requires
-envelope-refusal-requires c κs = (header-there _ _ _ _ _ _ (c .before .before .before .before .before .pre), journal-fit _ _ _ _ _ _ (c .before .before .before .before .before .pre), op-low _ _ _ _ _ _ (c .before .before .before .before .before .pre), op-high _ _ _ _ _ _ (c .before .before .before .before .before .pre), now-time _ _ _ _ _ _ (c .before .before .before .before .before .pre), issued-time _ _ _ _ _ _ (c .before .before .before .before .before .pre))
+envelope-refusal-requires c κs =
+    let start = c .before .before .before .before .before in
+    (header-there (start .pre), journal-fit (start .pre), op-low (start .pre), op-high (start .pre), now-time (start .pre), issued-time (start .pre))
 
 returns : tie.Need-returns
 returns c = by-envelope _ _ _ (c .before .envelope-refusal .ensures _ _ _) (c .if1 .taken)

@@ -1,6 +1,6 @@
 -- `sums::counted` meets its contract: so far the sum is that of the rows before i.
 use Prim.Native.Nat.{_-_, _≤_}
-use mathlib.Core.Path.{_≡_, sym, _∙_, ap}
+use mathlib.Core.Path.{_≡_, sym}
 use native.Mathlib.Omega.{arith}
 use Rattle.payments.specs.Counted.{countedOf}
 use Rattle.payments.proofs.Whole.{counted-none, counted-next, counted-fits, counted-all}

@@ -1,6 +1,5 @@
 -- `sums::exceeds` meets its contract.
 use Rattle.payments.proofs.Whole.{exceeds-over, exceeds-under}
-use borrow.Author.Needs.{needs}
 use Rattle.payments.proofs.sums.exceeds.Statement.{statement}
 use Rattle.payments.proofs.sums.exceeds.Tie as tie
 use Rattle.payments.proofs.sums.exceeds.Reads as reads

@@ -27,7 +27,13 @@ choose-requires-3 : tie.Need-choose-requires-3
 choose-requires-3 c κs = search needs
 
 returns : tie.Need-returns
-returns c = λ e r. caps-by _ _ e r _ _ _ _ _ _ (c .before .before .before .before .before .before .before .before .before .before .before .pre .2) (c .before .before .before .before .before .find-row .ensures) (c .before .before .choose .ensures) (c .before .choose2 .ensures) (c .choose3 .ensures)
+returns c =
+    λ e r. caps-by _ _ e r _ _ _ _ _ _
+    (c .before .before .before .before .before .before .before .before .before .before .before .pre .2)
+    (c .before .before .before .before .before .find-row .ensures)
+    (c .before .before .choose .ensures)
+    (c .before .choose2 .ensures)
+    (c .choose3 .ensures)
 
 pub caps-refusal-spec : {M : Type 1} → statement M
 caps-refusal-spec =

@@ -24,7 +24,12 @@ choose-requires-2 : tie.Need-choose-requires-2
 choose-requires-2 c κs = search needs
 
 returns : tie.Need-returns
-returns c = λ e r. freeze-by _ _ e r _ _ _ _ _ (c .before .before .before .before .before .before .before .before .before .pre .2) (c .before .before .before .find-row .ensures) (c .before .choose .ensures) (c .choose2 .ensures)
+returns c =
+    λ e r. freeze-by _ _ e r _ _ _ _ _
+    (c .before .before .before .before .before .before .before .before .before .pre .2)
+    (c .before .before .before .find-row .ensures)
+    (c .before .choose .ensures)
+    (c .choose2 .ensures)
 
 pub freeze-refusal-spec : {M : Type 1} → statement M
 freeze-refusal-spec =
