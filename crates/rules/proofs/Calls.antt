@@ -81,7 +81,8 @@ pub read-formed : (b : List ℕ) → eqb (readOf b .number) 3 ≡ false → well
 unfolding readOf accepted
 read-formed b =
     cond-case (λ (r : Read). eqb (r .number) 3 ≡ false → wellFormed (r .submission) ≡ true) (accepted b)
-    (record { number = 0; submission = decode b }) (record { number = 3; submission = nothing }) (λ e h. all-at (eqb (length b) RECORD-BYTES ∷ eqb (getD b 0 0) MARK-0 ∷ eqb (getD b 1 0) MARK-1 ∷ wellFormed (decode b) ∷ []) e 3)
+    (record { number = 0; submission = decode b }) (record { number = 3; submission = nothing })
+    (λ e h. all-at (eqb (length b) RECORD-BYTES ∷ eqb (getD b 0 0) MARK-0 ∷ eqb (getD b 1 0) MARK-1 ∷ wellFormed (decode b) ∷ []) e 3)
     (λ e h. absurd (true≢false h))
 
 pub record Formed (s : Submission) : Type 0 where

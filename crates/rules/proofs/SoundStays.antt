@@ -102,7 +102,10 @@ module _ (L : Ledger) (r : Read) (z : answerOf L r ≡ 0) (form : Formed (r .sub
       (mv (K .wallets) (walletCount K) BALANCE (s .signer) BALANCE (s .target) (s .amount)) (head K GRANTED) (en .good)
       (moved-then (moved-put (K .wallets) (walletCount K) _ BALANCE _ (lit< tt) (omega arith) (λ q. absurd (omega arith)))
       (moved-put _ (walletCount K) _ BALANCE _ (lit< tt) (omega arith) (λ q. absurd (omega arith))))
-      (λ w. omega (arith, mv-bal (K .wallets) (walletCount K) BALANCE (s .signer) BALANCE (s .target) (s .amount) (lit≤ tt) (lit≤ tt) (lit≤ tt) (lit≤ tt) fits from (en .found) (enough en t) LOCKED w (lit< tt)))
+      (λ w. omega (
+        arith,
+        mv-bal (K .wallets) (walletCount K) BALANCE (s .signer) BALANCE (s .target) (s .amount) (lit≤ tt) (lit≤ tt) (lit≤ tt) (lit≤ tt) fits from (en .found) (enough en t) LOCKED w (lit< tt),
+      ))
       (mv-total (K .wallets) (walletCount K) BALANCE (s .signer) BALANCE (s .target) (s .amount) (lit≤ tt) (lit≤ tt) (lit≤ tt) (lit≤ tt) fits from (en .found) (enough en t) ∙ en .good .totals)
       (en .good .most)
 

@@ -22,7 +22,7 @@ use Rattle.rules.specs.Settle.{Done, done, Sweep, sweptReceipts, swept, 
 use Rattle.rules.specs.Settle.{closeDueReceipt, closeDueEscrow, sweepReceipt, sweepEscrow, sweep, operations, idle, operate, settle}
 use Rattle.rules.specs.Submit.{submit}
 use Rattle.rules.specs.Due.{dueReceipts, dueEscrows, due, closeAll}
-use Rattle.rules.specs.Promises.{Sweep-counts, Sweep-closes}
+use Rattle.rules.specs.Promises.{Sweep-counts, Sweep-answers, Sweep-closes}
 use Rattle.rules.specs.declared.Submission.{Submission}
 use Rattle.rules.proofs.Bools.{and-snd, and-none-snd, cond-case}
 use Rattle.rules.proofs.Rows.{word-row}
@@ -176,8 +176,7 @@ unfolding R M
 sweep-closes now limit L w = ap (λ (s : Sweep). s .tables) (after-escrows now limit L w)
 
 -- so the word of a settled sweep counts the rows that it closes
-pub sweep-answers : (L : Ledger) (b : List ℕ) → 8 ≤ L .edition .escrowLen → submit L b .number ≡ 0 → readOf b .submission .op ≡ SWEEP
-    → submit L b .word ≡ min (readOf b .submission .amount) (due L (readOf b .submission .now))
+pub sweep-answers : Sweep-answers
 unfolding settle operate sweep
 sweep-answers L b w zero-b is-sweep =
     let s : Submission = readOf b .submission in
