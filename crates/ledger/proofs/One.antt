@@ -4,7 +4,7 @@ use mathlib.Core.List.{List}
 use mathlib.Core.Bool.{Bool}
 use Prim.Native.Nat.{ℕ}
 use Rattle.rules.specs.Ledger.{Ledger, Outcome, outcome, first-edition, lengthsRight, fresh}
-use Rattle.rules.specs.Lookup.{partAt, escrowPlace, receiptPlace, escrowPart, receiptPart, walletNumber}
+use Rattle.rules.specs.Lookup.{escrowPlace, receiptPlace, escrowPart, receiptPart, walletNumber}
 use Rattle.rows.specs.Part.{placed}
 
 one : {A : Type 0} {x y a : A} → x ≡ a → y ≡ a → x ≡ y

@@ -1,16 +1,16 @@
 -- Which operation uses what: the code's tests of the operation against the paper's table, by one computed claim over the operations. Then
 -- the code's tests of the fields are those of the definition.
-use mathlib.Core.Path.{_≡_, refl, sym, ap, _∙_, subst}
+use mathlib.Core.Path.{_≡_, refl, sym, _∙_}
 use mathlib.Core.List.{List, [], _∷_}
 use mathlib.Core.Bool.{Bool, true, false, not, _&&_, _||_}
-use Prim.Native.Nat.{ℕ, zero, suc, _+_, _/_, _%_, _^_, _≤_, _<_}
+use Prim.Native.Nat.{ℕ, zero, suc, _≤_, _<_}
 use native.Mathlib.Omega.{arith}
 use lib.Dec.{T, eqb, ltb, leb}
 use lib.ListN.{getD}
 use borrow.Author.Tests.{leb-true, ne-eqb}
 use Rattle.rules.specs.Limits.{GRANT, TRANSFER, OPEN, RELEASE, REFUND, CLAIM, DISPUTE, SWEEP, FREEZE, CAPS, LAST-TIME-MS}
 use Rattle.rules.specs.Table.{all, every}
-use Rattle.rules.specs.Record.{bit, Uses, usesOf, usedOrZero, bitsUsed, wellFormed}
+use Rattle.rules.specs.Record.{bit, usesOf, usedOrZero, wellFormed}
 use Rattle.rules.specs.declared.Submission.{Submission}
 use Rattle.rules.proofs.Bools.{all-at, or-other, not-true-false}
 use Rattle.rules.proofs.Below.{below}

@@ -1,9 +1,9 @@
 -- The reader and the writer as wholes, over plain values: what they answer from what their parts found. And any two answers that their
 -- contracts permit are equal.
-use mathlib.Core.Path.{_≡_, refl, sym, ap, _∙_, subst}
-use mathlib.Core.List.{List, [], _∷_}
+use mathlib.Core.Path.{_≡_, sym, _∙_, subst}
+use mathlib.Core.List.{List}
 use mathlib.Core.Bool.{Bool, true, false, cond, _&&_}
-use Prim.Native.Nat.{ℕ, _+_, _≤_}
+use Prim.Native.Nat.{ℕ, _≤_}
 use lib.Dec.{T, eqb, leb, lit≤}
 use lib.ListN.{getD, set, length, length-set}
 use lib.Seq.{sets}
@@ -14,9 +14,9 @@ use Rattle.rules.specs.declared.Submission.{Submission}
 use Rattle.rules.specs.declared.Read.{Read}
 use Rattle.rules.proofs.Rows.{sets-whole}
 
--- a word of a record is within it
-pub room : (b : List ℕ) → length b ≡ RECORD-BYTES → (k : ℕ) → T (leb (k + 8) RECORD-BYTES) → k + 8 ≤ length b
-room b h k t = subst (λ (n : ℕ). k + 8 ≤ n) (sym h) (lit≤ t)
+-- a place of a record is within it
+pub room : (b : List ℕ) → length b ≡ RECORD-BYTES → {m : ℕ} → T (leb m RECORD-BYTES) → m ≤ length b
+room b h {m} t = subst (λ (n : ℕ). m ≤ n) (sym h) (lit≤ t)
 
 -- ---- the reader
 abbrev refused : Read
@@ -52,7 +52,7 @@ pub headed : (out : List ℕ) (s : Submission) → length (Headed out s) ≡ len
 headed out s = simp length-set
 
 pub headed-room : (out : List ℕ) (s : Submission) → length out ≡ RECORD-BYTES → RECORD-BYTES ≤ length (Headed out s)
-headed-room out s h = subst (λ (n : ℕ). RECORD-BYTES ≤ n) (sym (headed out s ∙ h)) (lit≤ tt)
+headed-room out s h = room (Headed out s) (headed out s ∙ h) tt
 
 pub stored : (out out′ : List ℕ) (s : Submission) → length out ≡ RECORD-BYTES → out′ ≡ sets (Headed out s) 4 (wordBytes (wordsOf s)) → out′ ≡ encode s
 unfolding encode

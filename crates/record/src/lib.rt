@@ -10,8 +10,8 @@ use rules::limits::MARK_0;
 use rules::limits::MARK_1;
 use rules::limits::RECORD_BYTES;
 
-pub mod bytes;
-pub mod form;
+mod bytes;
+mod form;
 
 // The answer to a record, or to fields, that are malformed.
 const MALFORMED_RECORD: u64 = 3;

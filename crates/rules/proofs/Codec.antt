@@ -1,12 +1,12 @@
 -- The record read back: what is written is read as it was, and what was read is written back byte by byte. So reader and writer are
 -- inverse to each other where they accept.
 use mathlib.Core.Path.{_≡_, refl, sym, ap, ap₂, _∙_}
-use mathlib.Core.List.{List, [], _∷_}
+use mathlib.Core.List.{List, _∷_}
 use mathlib.Core.Bool.{Bool, true, false, cond, _&&_}
-use Prim.Native.Nat.{ℕ, suc, _+_, _^_, _≤_, _<_}
+use Prim.Native.Nat.{ℕ, _^_, _≤_}
 use native.Mathlib.Omega.{arith}
 use lib.Dec.{eqb}
-use lib.ListN.{getD, length, take, drop, length-drop}
+use lib.ListN.{getD, length, drop, length-drop}
 use lib.Seq.{take-all, drop-cons}
 use borrow.Author.Tests.{eqb-true, eq-eqb}
 use Rattle.rules.specs.Limits.{RECORD-BYTES, MARK-0, MARK-1}
@@ -15,7 +15,7 @@ use Rattle.rules.specs.Promises.{Fields, Bytes, Written-read, Read-writt
 use Rattle.rules.specs.declared.Submission.{Submission}
 use Rattle.rules.specs.declared.Read.{Read}
 use Rattle.rules.proofs.Bools.{all-at, and-snd}
-use Rattle.rules.proofs.Le.{AllBelow, leSum, sums-are, wordsAt, words-are}
+use Rattle.rules.proofs.Le.{AllBelow, sums-are, wordsAt, words-are}
 
 -- a submission from its two bytes and its words
 abbrev ofWords : ℕ → ℕ → List ℕ → Submission

@@ -15,43 +15,43 @@ shared-slice-read-t5 : tie.Need-shared-slice-read-t5
 shared-slice-read-t5 c = search needs
 
 word-at-requires : tie.Need-word-at-requires
-word-at-requires c κs = room (c .before .before .before .args .b .now) (c .before .before .before .pre) 4 tt
+word-at-requires c κs = room (c .before .before .before .args .b .now) (c .before .before .before .pre) tt
 
 word-at-requires-2 : tie.Need-word-at-requires-2
-word-at-requires-2 c κs = room (c .before .before .before .before .args .b .now) (c .before .before .before .before .pre) 12 tt
+word-at-requires-2 c κs = room (c .before .before .before .before .args .b .now) (c .before .before .before .before .pre) tt
 
 word-at-requires-3 : tie.Need-word-at-requires-3
-word-at-requires-3 c κs = room (c .before .before .before .before .before .args .b .now) (c .before .before .before .before .before .pre) 20 tt
+word-at-requires-3 c κs = room (c .before .before .before .before .before .args .b .now) (c .before .before .before .before .before .pre) tt
 
 word-at-requires-4 : tie.Need-word-at-requires-4
-word-at-requires-4 c κs = room (c .before .before .before .before .before .before .args .b .now) (c .before .before .before .before .before .before .pre) 28 tt
+word-at-requires-4 c κs = room (c .before .before .before .before .before .before .args .b .now) (c .before .before .before .before .before .before .pre) tt
 
 word-at-requires-5 : tie.Need-word-at-requires-5
-word-at-requires-5 c κs = room (c .before .before .before .before .before .before .before .args .b .now) (c .before .before .before .before .before .before .before .pre) 36 tt
+word-at-requires-5 c κs = room (c .before .before .before .before .before .before .before .args .b .now) (c .before .before .before .before .before .before .before .pre) tt
 
 word-at-requires-6 : tie.Need-word-at-requires-6
-word-at-requires-6 c κs = room (c .before .before .before .before .before .before .before .before .args .b .now) (c .before .before .before .before .before .before .before .before .pre) 44 tt
+word-at-requires-6 c κs = room (c .before .before .before .before .before .before .before .before .args .b .now) (c .before .before .before .before .before .before .before .before .pre) tt
 
 word-at-requires-7 : tie.Need-word-at-requires-7
-word-at-requires-7 c κs = room (c .before .before .before .before .before .before .before .before .before .args .b .now) (c .before .before .before .before .before .before .before .before .before .pre) 52 tt
+word-at-requires-7 c κs = room (c .before .before .before .before .before .before .before .before .before .args .b .now) (c .before .before .before .before .before .before .before .before .before .pre) tt
 
 word-at-requires-8 : tie.Need-word-at-requires-8
-word-at-requires-8 c κs = room (c .before .before .before .before .before .before .before .before .before .before .args .b .now) (c .before .before .before .before .before .before .before .before .before .before .pre) 60 tt
+word-at-requires-8 c κs = room (c .before .before .before .before .before .before .before .before .before .before .args .b .now) (c .before .before .before .before .before .before .before .before .before .before .pre) tt
 
 word-at-requires-9 : tie.Need-word-at-requires-9
-word-at-requires-9 c κs = room (c .before .before .before .before .before .before .before .before .before .before .before .args .b .now) (c .before .before .before .before .before .before .before .before .before .before .before .pre) 68 tt
+word-at-requires-9 c κs = room (c .before .before .before .before .before .before .before .before .before .before .before .args .b .now) (c .before .before .before .before .before .before .before .before .before .before .before .pre) tt
 
 word-at-requires-10 : tie.Need-word-at-requires-10
-word-at-requires-10 c κs = room (c .before .before .before .before .before .before .before .before .before .before .before .before .args .b .now) (c .before .before .before .before .before .before .before .before .before .before .before .before .pre) 76 tt
+word-at-requires-10 c κs = room (c .before .before .before .before .before .before .before .before .before .before .before .before .args .b .now) (c .before .before .before .before .before .before .before .before .before .before .before .before .pre) tt
 
 word-at-requires-11 : tie.Need-word-at-requires-11
-word-at-requires-11 c κs = room (c .before .before .before .before .before .before .before .before .before .before .before .before .before .args .b .now) (c .before .before .before .before .before .before .before .before .before .before .before .before .before .pre) 84 tt
+word-at-requires-11 c κs = room (c .before .before .before .before .before .before .before .before .before .before .before .before .before .args .b .now) (c .before .before .before .before .before .before .before .before .before .before .before .before .before .pre) tt
 
 word-at-requires-12 : tie.Need-word-at-requires-12
-word-at-requires-12 c κs = room (c .before .before .before .before .before .before .before .before .before .before .before .before .before .before .args .b .now) (c .before .before .before .before .before .before .before .before .before .before .before .before .before .before .pre) 92 tt
+word-at-requires-12 c κs = room (c .before .before .before .before .before .before .before .before .before .before .before .before .before .before .args .b .now) (c .before .before .before .before .before .before .before .before .before .before .before .before .before .before .pre) tt
 
 word-at-requires-13 : tie.Need-word-at-requires-13
-word-at-requires-13 c κs = room (c .before .before .before .before .before .before .before .before .before .before .before .before .before .before .before .args .b .now) (c .before .before .before .before .before .before .before .before .before .before .before .before .before .before .before .pre) 100 tt
+word-at-requires-13 c κs = room (c .before .before .before .before .before .before .before .before .before .before .before .before .before .before .before .args .b .now) (c .before .before .before .before .before .before .before .before .before .before .before .before .before .before .before .pre) tt
 
 returns : tie.Need-returns
 unfolding decode

@@ -1,6 +1,6 @@
 -- `record::bytes::put_le` meets its contract: what is left to store makes the whole.
 use mathlib.Core.Path.{_≡_, refl, sym, _∙_}
-use Prim.Native.Nat.{ℕ, _+_}
+use Prim.Native.Nat.{_+_}
 use native.Mathlib.Omega.{arith}
 use lib.ListN.{length, length-set}
 use Rattle.record.proofs.Stores.{lePut, le-all, le-next, le-done}

@@ -1,6 +1,6 @@
 -- `record::bytes::put_words` meets its contract: what is left to store makes the whole.
 use mathlib.Core.Path.{_≡_, refl, sym, _∙_}
-use Prim.Native.Nat.{ℕ, _+_, _-_, _*_, _≤_, _<_}
+use Prim.Native.Nat.{_+_, _-_, _*_, _≤_, _<_}
 use native.Mathlib.Omega.{arith}
 use lib.ListN.{length}
 use Rattle.record.proofs.Stores.{wordsPut, words-all, words-next, words-done}

@@ -1,6 +1,5 @@
 -- `record::form::well_formed` meets its contract.
 use Rattle.record.proofs.Uses.{formed}
-use borrow.Author.Needs.{needs}
 use Rattle.record.proofs.form.well_formed.Statement.{statement}
 use Rattle.record.proofs.form.well_formed.Tie as tie
 use Rattle.record.proofs.form.well_formed.Reads as reads
