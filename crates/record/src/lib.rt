@@ -6,15 +6,13 @@ ghost use Rattle.rules.specs.Record.{decode, encode, nothing, readOf, Written, 
 ghost use Rattle.rules.specs.declared.Read.{Read};
 use rules::Read;
 use rules::Submission;
+use rules::limits::MALFORMED_RECORD;
 use rules::limits::MARK_0;
 use rules::limits::MARK_1;
 use rules::limits::RECORD_BYTES;
 
 mod bytes;
 mod form;
-
-// The answer to a record, or to fields, that are malformed.
-const MALFORMED_RECORD: u64 = 3;
 
 // What a malformed record is read as.
 fn malformed() -> Read
