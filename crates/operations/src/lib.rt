@@ -24,7 +24,7 @@ use rules::limits::WALLET_LEN;
 use rules::limits::WALLETS;
 ghost use mathlib.Core.Path.{_≡_};
 ghost use mathlib.Core.List.{List};
-ghost use Prim.Native.Nat.{ℕ, _-_, _≤_, _^_};
+ghost use Prim.Native.Nat.{ℕ, _-_, _≤_};
 ghost use Rattle.rules.specs.Limits.{MAX-RECEIPTS, BALANCE, AUTO-OR-FREEZE};
 ghost use Rattle.rules.specs.Ledger.{ledger};
 ghost use Rattle.rules.specs.Record.{bit};

@@ -17,7 +17,7 @@ use Rattle.rules.proofs.Stays.{Kept, kept-start, escrow-turn, loop-keeps}
 use Rattle.rules.proofs.SweepPlan.{sweep-counts}
 use Rattle.moves.specs.Needs.{ESCROW-LEN, Ends}
 use Rattle.moves.proofs.Bounds.{ends-of}
-use Rattle.sweeping.specs.Needs.{underWay, Expires, Sweeping, Expiring}
+use Rattle.sweeping.specs.Needs.{underWay, Expires, Expiring}
 use Rattle.sweeping.proofs.Turns.{loop-none, loop-next, loop-full, escrow-full}
 
 -- an escrow that is due can end
