@@ -69,3 +69,8 @@ all-cons b (c ∷ bs) p q = and-intro b (all (c ∷ bs)) p q
 pub cond-same : {A : Type 0} (b : Bool) (x : A) → cond b x x ≡ x
 cond-same true x = refl
 cond-same false x = refl
+
+-- what holds of both, each where it is chosen, holds of the chosen one
+pub cond-case {ℓ κ} : {A : Type ℓ} (P : A → Type κ) (b : Bool) (x y : A) → (b ≡ true → P x) → (b ≡ false → P y) → P (cond b x y)
+cond-case P true x y f g = f refl
+cond-case P false x y f g = g refl

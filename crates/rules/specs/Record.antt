@@ -136,8 +136,11 @@ nothing = record {
 }
 
 -- 108 bytes, the mark, and well-formed fields
+abbrev pub acceptTests : List ℕ → List Bool
+acceptTests b = eqb (length b) RECORD-BYTES ∷ eqb (getD b 0 0) MARK-0 ∷ eqb (getD b 1 0) MARK-1 ∷ wellFormed (decode b) ∷ []
+
 unfoldable pub accepted : List ℕ → Bool
-accepted b = all (eqb (length b) RECORD-BYTES ∷ eqb (getD b 0 0) MARK-0 ∷ eqb (getD b 1 0) MARK-1 ∷ wellFormed (decode b) ∷ [])
+accepted b = all (acceptTests b)
 
 -- THE READER: 0 and the fields, or 3 and every field 0
 unfoldable pub readOf : List ℕ → Read

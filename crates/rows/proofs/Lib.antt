@@ -1,0 +1,3 @@
+-- Laws that the functions over rows rest on.
+pub mod Laws
+pub mod Part

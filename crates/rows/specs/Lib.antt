@@ -1,0 +1,2 @@
+-- What the contracts of rows say beyond the definitions of rules.
+pub mod Part

@@ -1,0 +1,126 @@
+-- Demands 1 and 2 of `submit`, from the laws of the refusals and of one call; and demand 1 of the other public calls, by the cases of their
+-- definitions.
+use mathlib.Core.Path.{_≡_, refl, sym, ap, _∙_, subst}
+use mathlib.Core.Logic.{_≢_, _⊎_, inl, inr}
+use mathlib.Core.List.{List, []}
+use mathlib.Core.Bool.{Bool, true, not, _&&_}
+use Prim.Native.Nat.{ℕ, _+_, _-_, _*_, _≤_, _<_}
+use native.Mathlib.Omega.{arith}
+use lib.ListN.{getD, length, take, drop, length-take, length-drop}
+use lib.Seq.{drop-length, take-nil}
+use lib.Dec.{eqb, ltb, leb}
+use borrow.Author.Tests.{ltb-true, leb-true}
+use Rattle.rules.specs.Limits.{RECORD-BYTES, WALLETS, ESCROWS, RECEIPTS, WALLET-LEN, RECEIPT-LEN, MAX-WALLETS, MAX-ESCROWS, MAX-RECEIPTS}
+use Rattle.rules.specs.Table.{rowsIn, tableRight}
+use Rattle.rules.specs.Ledger.{Outcome, outcome, rowOf, written, lengthsRight, fresh, freshHeader, setHeader}
+use Rattle.rules.specs.Record.{wellFormed, encode, accepted, decode, readOf, nothing, Written, writeOf}
+use Rattle.rules.specs.Refusals.{refusals}
+use Rattle.rules.specs.Settle.{settle}
+use Rattle.rules.specs.Submit.{answerOf}
+use Rattle.rules.specs.Lookup.{countRight, rowPlace, partAt, walletNumber}
+use Rattle.rules.specs.Promises.{IsFirst, On-the-list, Refusal-changes-nothing, Fresh-answers, Read-answers, Write-answers}
+use Rattle.rules.specs.Promises.{Part-answers, Settles-exactly, First-refusal, Laid-down}
+use Rattle.rules.specs.declared.Read.{Read}
+use Rattle.rules.proofs.Bools.{and-fst, and-snd, cond-case}
+use Rattle.rules.proofs.Rows.{room}
+use Rattle.rules.proofs.Refused.{first-most, first-of, none-of-zero, zero-of-none, table-most, table-numbered}
+use Rattle.rules.proofs.Calls.{by-answer, number-is}
+
+-- ---- demand 1
+
+pub on-the-list : On-the-list
+unfolding answerOf
+on-the-list L b = subst (λ (n : ℕ). n ≤ 40) (sym (number-is L b)) (first-most 40 (refusals L (readOf b)) (table-most L (readOf b)))
+
+pub refusal-changes-nothing : Refusal-changes-nothing
+refusal-changes-nothing L b ne = record {
+  number = ne;
+  word = by-answer (λ (o : Outcome). o .word ≡ 0) L b (λ e. absurd (refused e)) (λ e. refl);
+  left = by-answer (λ (o : Outcome). o .left ≡ L) L b (λ e. absurd (refused e)) (λ e. refl);
+}
+  where
+    refused : answerOf L (readOf b) ≢ 0
+    refused e = ne (number-is L b ∙ e)
+
+pub fresh-answers : Fresh-answers
+unfolding fresh
+fresh-answers L =
+    cond-case (λ (o : Outcome). ((o .number ≡ 0) × (o .word ≡ 0)) ⊎ ((o .number ≡ 1) × (o .word ≡ 0) × (o .left ≡ L))) (lengthsRight L)
+    (outcome 0 0 (setHeader (freshHeader (L .edition)) L)) (outcome 1 0 L) (λ e. inl (refl, refl)) (λ e. inr (refl, refl, refl))
+
+pub read-answers : Read-answers
+unfolding readOf
+read-answers b =
+    cond-case (λ (r : Read). (r .number ≡ 0) ⊎ ((r .number ≡ 3) × (r .submission ≡ nothing))) (accepted b)
+    (record { number = 0; submission = decode b }) (record { number = 3; submission = nothing }) (λ e. inl refl) (λ e. inr (refl, refl))
+
+pub write-answers : Write-answers
+unfolding writeOf
+write-answers s out =
+    cond-case (λ (w : Written). (w .number ≡ 0) ⊎ ((w .number ≡ 3) × (w .out ≡ out))) (eqb (length out) RECORD-BYTES && wellFormed s)
+    (record { number = 0; out = encode s }) (record { number = 3; out = out }) (λ e. inl refl) (λ e. inr (refl, refl))
+
+-- a number that names a written row, where the count is within the table
+count-within : (headerLen c len most : ℕ) (header t : List ℕ) (x : Bool) → countRight headerLen c len most header t && x ≡ true → getD header c 0 ≤ rowsIn len t
+count-within headerLen c len most header t x h =
+    leb-true (getD header c 0) (rowsIn len t)
+    (and-snd (tableRight len most t) _ (and-snd (eqb (length header) headerLen) _ (and-fst (countRight headerLen c len most header t) x h)))
+
+-- the part of a table from a place on is empty at the table's end, and whole where a row starts
+part-or-none : (headerLen c len most : ℕ) (header t : List ℕ) (k : ℕ)
+    → (partAt len t (rowPlace headerLen c len most header t k) ≡ []) ⊎ (length (partAt len t (rowPlace headerLen c len most header t k)) ≡ len)
+unfolding rowPlace
+part-or-none headerLen c len most header t k =
+    cond-case (λ (p : ℕ). (partAt len t p ≡ []) ⊎ (length (partAt len t p) ≡ len))
+    (countRight headerLen c len most header t && written (getD header c 0) k) ((k - 1) * len) (length t) (λ e. inr (whole e))
+    (λ e. inl (ap (take len) (drop-length t) ∙ take-nil len))
+  where
+    whole : countRight headerLen c len most header t && written (getD header c 0) k ≡ true → length (partAt len t ((k - 1) * len)) ≡ len
+    whole e =
+        let w : written (getD header c 0) k ≡ true = and-snd (countRight headerLen c len most header t) _ e in
+        let low : 0 < k = ltb-true 0 k (and-fst (ltb 0 k) (leb k (getD header c 0)) w) in
+        let high : k ≤ getD header c 0 = leb-true k (getD header c 0) (and-snd (ltb 0 k) (leb k (getD header c 0)) w) in
+        let fits : getD header c 0 ≤ rowsIn len t = count-within headerLen c len most header t (written (getD header c 0) k) e in
+        let r : (k - 1) * len + len ≤ length t = room len (k - 1) t (omega arith) in
+        omega (arith, length-take len (drop ((k - 1) * len) t), length-drop ((k - 1) * len) t)
+
+pub part-answers : Part-answers
+unfolding walletNumber
+part-answers e header t k = (
+  part-or-none (e .headerLen) ESCROWS (e .escrowLen) MAX-ESCROWS header t k,
+  part-or-none (e .headerLen) RECEIPTS RECEIPT-LEN MAX-RECEIPTS header t k,
+  cond-case (λ (n : ℕ). n ≤ rowsIn WALLET-LEN t) (countRight (e .headerLen) WALLETS WALLET-LEN MAX-WALLETS header t && (not (eqb k 0) && ltb r n))
+      (r + 1) 0 (λ h. found h) (λ h. omega arith),
+)
+  where
+    n : ℕ
+    n = getD header WALLETS 0
+
+    r : ℕ
+    r = rowOf t n k
+
+    found : countRight (e .headerLen) WALLETS WALLET-LEN MAX-WALLETS header t && (not (eqb k 0) && ltb r n) ≡ true → r + 1 ≤ rowsIn WALLET-LEN t
+    found h =
+        let fits : n ≤ rowsIn WALLET-LEN t = count-within (e .headerLen) WALLETS WALLET-LEN MAX-WALLETS header t (not (eqb k 0) && ltb r n) h in
+        let low : r < n =
+        ltb-true r n (and-snd (not (eqb k 0)) (ltb r n) (and-snd (countRight (e .headerLen) WALLETS WALLET-LEN MAX-WALLETS header t) _ h)) in
+        omega arith
+
+-- ---- demand 2
+
+pub settles-exactly : Settles-exactly
+unfolding answerOf
+settles-exactly L b = (
+  (λ e. none-of-zero (refusals L (readOf b)) (table-numbered L (readOf b)) (sym (number-is L b) ∙ e)),
+  (λ e. number-is L b ∙ zero-of-none (refusals L (readOf b)) e),
+)
+
+pub first-refusal : First-refusal
+unfolding answerOf
+first-refusal L b ne =
+    subst (λ (n : ℕ). IsFirst n (refusals L (readOf b))) (sym (number-is L b)) (first-of (refusals L (readOf b)) (λ e. ne (number-is L b ∙ e)))
+
+pub laid-down : Laid-down
+laid-down L b e =
+    by-answer (λ (o : Outcome). o ≡ outcome 0 (settle (readOf b .submission) L .word) (settle (readOf b .submission) L .after)) L b (λ z. refl)
+    (λ ne. absurd (ne (sym (number-is L b) ∙ e)))
