@@ -27,7 +27,8 @@ pub fn id(ids: Ids, place: usize) -> u64 {
 }
 
 /// A sound ledger with all rows written but [`ROOM`] escrows and journal rows. A quarter of the
-/// escrows are open, receipts are linked to escrows, and the journal holds transfers of the last day.
+/// escrows are open, receipts are linked to escrows, and the journal holds transfers of the last
+/// day.
 pub fn filled(sizes: Sizes, ids: Ids) -> Ledger {
     let mut tables = Tables::zeros(sizes);
     let wallets = sizes.wallets;

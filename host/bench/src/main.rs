@@ -1,5 +1,5 @@
-//! `bench [--quick] [--plot FILE]`: prints what a call of the core costs, as a table in Markdown, and
-//! draws how the cost grows.
+//! `bench [--quick] [--plot FILE]`: prints what a call of the core costs, as a table in Markdown,
+//! and draws how the cost grows.
 //!
 //! Everything in one table is measured in one run, in turns, and the least of many times is taken:
 //! the ratios say more than the times.

@@ -38,8 +38,8 @@ pub fn timed(count: usize, calls: impl FnOnce()) -> f64 {
     from.elapsed().as_secs_f64() * 1e6 / count as f64
 }
 
-/// The sum of all words and `sum`. Not inlined, and each time from another sum, so that every call is
-/// made.
+/// The sum of all words and `sum`. Not inlined, and each time from another sum, so that every call
+/// is made.
 #[inline(never)]
 fn words(tables: &Tables<&[u64]>, sum: u64) -> u64 {
     [

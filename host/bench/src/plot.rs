@@ -88,17 +88,40 @@ pub fn growth(rows: &[(Sizes, Costs)]) -> String {
         (LEFT + RIGHT) / 2.0,
         BOTTOM + 44.0
     );
-    for (name, colour, of) in CURVES {
-        curve(&mut svg, rows, &scale, name, colour, of);
+    let ends = rows
+        .last()
+        .map(|(_, costs)| CURVES.map(|(_, _, of)| scale.y(of(costs))));
+    let labels = apart(&ends.unwrap_or_default());
+    for ((name, colour, of), label) in CURVES.into_iter().zip(labels) {
+        curve(&mut svg, rows, &scale, colour, of);
+        let _ = writeln!(
+            svg,
+            "<text x=\"{:.1}\" y=\"{:.1}\" fill=\"{colour}\">{name}</text>",
+            RIGHT + 10.0,
+            label + 4.0
+        );
     }
     svg + "</svg>\n"
 }
 
+/// The places of the labels, from the top down, a line apart at least.
+fn apart(ends: &[f64; CURVES.len()]) -> [f64; CURVES.len()] {
+    let mut order: Vec<usize> = (0..ends.len()).collect();
+    order.sort_by(|&a, &b| ends[a].total_cmp(&ends[b]));
+    let mut places = *ends;
+    let mut last = f64::MIN;
+    for place in order {
+        places[place] = places[place].max(last + 17.0);
+        last = places[place];
+    }
+    places
+}
+
+/// One line, with its points.
 fn curve(
     svg: &mut String,
     rows: &[(Sizes, Costs)],
     scale: &Scale,
-    name: &str,
     colour: &str,
     of: fn(&Costs) -> f64,
 ) {
@@ -120,14 +143,6 @@ fn curve(
         let _ = writeln!(
             svg,
             "<circle cx=\"{x:.1}\" cy=\"{y:.1}\" r=\"3\" fill=\"{colour}\"/>"
-        );
-    }
-    if let Some((x, y)) = points.last() {
-        let _ = writeln!(
-            svg,
-            "<text x=\"{:.1}\" y=\"{:.1}\" fill=\"{colour}\">{name}</text>",
-            x + 10.0,
-            y + 4.0
         );
     }
 }
