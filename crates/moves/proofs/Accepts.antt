@@ -1,11 +1,10 @@
 -- A receipt that is accepted, each way: no link, an escrow that is released, one that cannot be.
-use mathlib.Core.Path.{_≡_, refl, sym, ap, _∙_, subst}
+use mathlib.Core.Path.{_≡_, sym, _∙_, subst}
 use mathlib.Core.Logic.{_≢_}
 use mathlib.Core.List.{List}
-use mathlib.Core.Bool.{Bool, true, false, cond}
-use Prim.Native.Nat.{ℕ, _+_, _-_, _*_, _<_, _≤_, _^_}
+use mathlib.Core.Bool.{Bool, true, false}
+use Prim.Native.Nat.{ℕ, _-_, _≤_}
 use native.Mathlib.Omega.{arith}
-use lib.Dec.{eqb}
 use borrow.Author.Tests.{eq-eqb, ne-eqb}
 use Rattle.rules.specs.Limits.{RECEIPT-LEN, RECEIPT-LINK, RELEASE-CODE, RELEASE-IMPOSSIBLE, ACCEPTED, RELEASED}
 use Rattle.rules.specs.Table.{word, put}

@@ -2,11 +2,11 @@
 use mathlib.Core.Path.{_≡_}
 use mathlib.Core.List.{List, []}
 use mathlib.Core.Bool.{true}
-use Prim.Native.Nat.{ℕ, _+_, _-_, _<_, _≤_}
+use Prim.Native.Nat.{ℕ, _-_, _<_}
 use native.Mathlib.Omega.{arith}
 use lib.ListN.{getD}
 use lib.Dec.{eqb, leb}
-use Rattle.rules.specs.Limits.{WALLET-LEN, WALLETS, ESCROWS, RECEIPTS, BALANCE, FROM, TO, ESCROW-STATE, ESCROW-DEADLINE, IS-OPEN, RECEIPT-LINK}
+use Rattle.rules.specs.Limits.{WALLET-LEN, WALLETS, ESCROWS, RECEIPTS, FROM, TO, ESCROW-STATE, ESCROW-DEADLINE, IS-OPEN, RECEIPT-LINK}
 use Rattle.rules.specs.Table.{word}
 use Rattle.rules.specs.Ledger.{ledger, walletRow, escrow, receipt}
 use Rattle.rules.proofs.Bools.{and-fst}

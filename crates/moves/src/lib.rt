@@ -28,10 +28,10 @@ use rules::limits::WALLET_LEN;
 use rules::limits::WALLETS;
 ghost use mathlib.Core.Path.{_≡_};
 ghost use mathlib.Core.List.{List};
-ghost use mathlib.Core.Bool.{cond, _&&_};
+ghost use mathlib.Core.Bool.{cond};
 ghost use Prim.Native.Nat.{ℕ, _+_, _-_, _*_, _<_, _≤_, _^_};
 ghost use lib.ListN.{length, getD, set};
-ghost use lib.Dec.{eqb, leb};
+ghost use lib.Dec.{eqb};
 ghost use Rattle.rules.specs.Limits.{WALLET-LEN, WALLETS, ESCROW-STATE, ESCROW-CLOSED-AT, ESCROW-CLOSED-BY, RELEASED};
 ghost use Rattle.rules.specs.Table.{word, put, putRow};
 ghost use Rattle.rules.specs.Ledger.{ledger, rowOf, putEscrow};
@@ -186,15 +186,8 @@ pub fn accept_receipt(
         return 0;
     }
     if is_releasable(escrows, (link - 1) as usize, time) {
-        end_escrow(
-            header,
-            wallets,
-            escrows,
-            EscrowNumber(link),
-            RELEASED,
-            time,
-            signer,
-        );
+        let escrow = EscrowNumber(link);
+        end_escrow(header, wallets, escrows, escrow, RELEASED, time, signer);
         return link;
     }
     rows::set(receipts, RECEIPT_LEN, row, RELEASE_CODE, RELEASE_IMPOSSIBLE);

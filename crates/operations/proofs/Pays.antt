@@ -1,6 +1,6 @@
 -- A payment: the amount leaves the signer's balance, for the target's balance or for the signer's own locked. Neither wraps nor falls
 -- below zero, and the rows that were found before stay where they are.
-use mathlib.Core.Path.{_≡_, refl, sym, ap, _∙_, subst}
+use mathlib.Core.Path.{_≡_, sym, ap, _∙_, subst}
 use mathlib.Core.Logic.{_≢_}
 use mathlib.Core.List.{List, [], _∷_}
 use Prim.Native.Nat.{ℕ, _+_, _-_, _<_, _≤_, _^_}

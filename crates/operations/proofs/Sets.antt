@@ -1,5 +1,5 @@
 -- Operations that set words and move no credits: a receipt claimed, a flag, the caps.
-use mathlib.Core.Path.{_≡_, refl, sym, _∙_}
+use mathlib.Core.Path.{_≡_}
 use mathlib.Core.List.{List, [], _∷_}
 use Prim.Native.Nat.{ℕ, _+_, _<_, _^_}
 use lib.ListN.{getD, set}

@@ -24,7 +24,7 @@ use rules::limits::WALLET_LEN;
 use rules::limits::WALLETS;
 ghost use mathlib.Core.Path.{_≡_};
 ghost use mathlib.Core.List.{List};
-ghost use Prim.Native.Nat.{ℕ, _-_, _≤_, _^_};
+ghost use Prim.Native.Nat.{ℕ, _-_, _≤_};
 ghost use Rattle.rules.specs.Limits.{MAX-RECEIPTS, BALANCE, AUTO-OR-FREEZE};
 ghost use Rattle.rules.specs.Ledger.{ledger};
 ghost use Rattle.rules.specs.Record.{bit};
@@ -100,15 +100,8 @@ pub fn release(header: &[u64], wallets: &mut [u64], escrows: &mut [u64], s: Subm
     requires { ⌜ (1 ≤ s .target) × Ends (now header) (now wallets) (now escrows) (s .target - 1) ⌝ }
     ensures { λ x. ⌜ ((r j : List ℕ) → done x (ledger (now (header .entry)) (now (wallets .exit)) (now (escrows .exit)) r j) ≡ release s (ledger (now (header .entry)) (now (wallets .entry)) (now (escrows .entry)) r j)) ⌝ }
 {
-    moves::end_escrow(
-        header,
-        wallets,
-        escrows,
-        EscrowNumber(s.target),
-        RELEASED,
-        s.now,
-        s.signer,
-    );
+    let number = EscrowNumber(s.target);
+    moves::end_escrow(header, wallets, escrows, number, RELEASED, s.now, s.signer);
     0
 }
 
@@ -117,15 +110,8 @@ pub fn refund(header: &[u64], wallets: &mut [u64], escrows: &mut [u64], s: Submi
     requires { ⌜ (1 ≤ s .target) × Ends (now header) (now wallets) (now escrows) (s .target - 1) ⌝ }
     ensures { λ x. ⌜ ((r j : List ℕ) → done x (ledger (now (header .entry)) (now (wallets .exit)) (now (escrows .exit)) r j) ≡ refund s (ledger (now (header .entry)) (now (wallets .entry)) (now (escrows .entry)) r j)) ⌝ }
 {
-    moves::end_escrow(
-        header,
-        wallets,
-        escrows,
-        EscrowNumber(s.target),
-        REFUNDED,
-        s.now,
-        s.signer,
-    );
+    let number = EscrowNumber(s.target);
+    moves::end_escrow(header, wallets, escrows, number, REFUNDED, s.now, s.signer);
     0
 }
 
@@ -177,15 +163,8 @@ pub fn accept(
     requires { ⌜ (1 ≤ s .target) × Accepts (now header) (now wallets) (now escrows) (now receipts) (s .now) (s .target - 1) ⌝ }
     ensures { λ x. ⌜ ((j : List ℕ) → done x (ledger (now (header .entry)) (now (wallets .exit)) (now (escrows .exit)) (now (receipts .exit)) j) ≡ accept s (ledger (now (header .entry)) (now (wallets .entry)) (now (escrows .entry)) (now (receipts .entry)) j)) ⌝ }
 {
-    moves::accept_receipt(
-        header,
-        wallets,
-        escrows,
-        receipts,
-        ReceiptNumber(s.target),
-        s.now,
-        s.signer,
-    )
+    let number = ReceiptNumber(s.target);
+    moves::accept_receipt(header, wallets, escrows, receipts, number, s.now, s.signer)
 }
 
 // Dispute closes the receipt as disputed and moves no credits.
@@ -193,7 +172,8 @@ pub fn dispute(receipts: &mut [u64], s: Submission) -> u64
     requires { ⌜ (1 ≤ s .target) × (s .target ≤ MAX-RECEIPTS) ⌝ }
     ensures { λ x. ⌜ ((h w e j : List ℕ) → done x (ledger h w e (now (receipts .exit)) j) ≡ dispute s (ledger h w e (now (receipts .entry)) j)) ⌝ }
 {
-    moves::close_receipt(receipts, ReceiptNumber(s.target), DISPUTED, s.now, s.signer);
+    let number = ReceiptNumber(s.target);
+    moves::close_receipt(receipts, number, DISPUTED, s.now, s.signer);
     0
 }
 

@@ -9,10 +9,12 @@ use native.Mathlib.Omega.{arith}
 use lib.ListN.{getD, length, take, drop}
 use lib.Seq.{drop-cons, take-add, drop-drop}
 use Rattle.rules.specs.Record.{leAt, leBytes, wordBytes}
+use Rattle.rules.specs.Promises.{Bytes}
 
--- every element is below m: bytes are below 256, words below 2^64
-abbrev pub EachBelow : ℕ → List ℕ → Type 0
-EachBelow m l = (i : ℕ) → getD l i 0 < m
+-- every word of a list is below m
+abbrev pub AllBelow : ℕ → List ℕ → Type 0
+AllBelow m [] = Unit {0}
+AllBelow m (x ∷ xs) = (x < m) × AllBelow m xs
 
 -- the number that n bytes of x say: `leAt` computes to it where those bytes stand
 abbrev pub leSum : ℕ → ℕ → ℕ
@@ -26,12 +28,12 @@ sum-is (suc n) x h =
     let e : leSum n (x / 256) ≡ x / 256 = sum-is n (x / 256) (omega arith) in
     omega arith
 
-pub sums-are : (n : ℕ) (ws : List ℕ) → EachBelow (256 ^ n) ws → map (leSum n) ws ≡ ws
+pub sums-are : (n : ℕ) (ws : List ℕ) → AllBelow (256 ^ n) ws → map (leSum n) ws ≡ ws
 sums-are n [] h = refl
-sums-are n (w ∷ ws) h = ap₂ (λ (x : ℕ) (xs : List ℕ). x ∷ xs) (sum-is n w (h 0)) (sums-are n ws (λ i. h (suc i)))
+sums-are n (w ∷ ws) h = ap₂ (λ (x : ℕ) (xs : List ℕ). x ∷ xs) (sum-is n w (h .0)) (sums-are n ws (h .1))
 
 -- the bytes of the number at p are those that stand there
-pub bytes-are : (n : ℕ) (s : List ℕ) (p : ℕ) → EachBelow 256 s → p + n ≤ length s → leBytes n (leAt n s p) ≡ take n (drop p s)
+pub bytes-are : (n : ℕ) (s : List ℕ) (p : ℕ) → Bytes s → p + n ≤ length s → leBytes n (leAt n s p) ≡ take n (drop p s)
 bytes-are zero s p b h = refl
 bytes-are (suc n) s p b h =
     let i : p < length s = omega arith in
@@ -46,7 +48,7 @@ abbrev pub wordsAt : ℕ → List ℕ → ℕ → List ℕ
 wordsAt zero s p = []
 wordsAt (suc n) s p = leAt 8 s p ∷ wordsAt n s (p + 8)
 
-pub words-are : (n : ℕ) (s : List ℕ) (p : ℕ) → EachBelow 256 s → p + 8 * n ≤ length s → wordBytes (wordsAt n s p) ≡ take (8 * n) (drop p s)
+pub words-are : (n : ℕ) (s : List ℕ) (p : ℕ) → Bytes s → p + 8 * n ≤ length s → wordBytes (wordsAt n s p) ≡ take (8 * n) (drop p s)
 words-are zero s p b h = refl
 words-are (suc n) s p b h =
     let e : 8 * suc n ≡ 8 + 8 * n = omega arith in

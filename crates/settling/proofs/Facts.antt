@@ -27,7 +27,7 @@ use Rattle.moves.specs.Needs.{Small, Counted, Ends, Accepts}
 use Rattle.moves.proofs.Bounds.{counted-of, ends-of, accepts-of}
 use Rattle.operations.specs.Needs.{Receiving, Granting, Paying, Opening, Claiming}
 use Rattle.sweeping.specs.Needs.{Sweeping}
-use Rattle.settling.specs.Needs.{Settles, Operates}
+use Rattle.settling.specs.Needs.{Settles}
 
 -- a count within a table of right length
 count-small : (len most n : ℕ) (t : List ℕ) → tableRight len most t ≡ true → n ≤ rowsIn len t → n ≤ most

@@ -44,7 +44,7 @@ fn operate(
         CLAIM => operations::claim(header, receipts, s),
         ACCEPT => operations::accept(header, wallets, escrows, receipts, s),
         DISPUTE => operations::dispute(receipts, s),
-        SWEEP => sweeping::sweep(header, wallets, escrows, receipts, s),
+        SWEEP => sweeping::sweep(header, wallets, escrows, receipts, s.now, s.amount),
         FREEZE => operations::freeze(header, wallets, s),
         CAPS => operations::caps(header, wallets, s),
         // no well-formed record has another operation

@@ -2,21 +2,22 @@
 use mathlib.Core.Path.{_≡_, refl, sym, ap, ap₂, _∙_, subst}
 use mathlib.Core.List.{List, []}
 use mathlib.Core.Bool.{Bool, true, _&&_}
-use Prim.Native.Nat.{ℕ, _+_, _-_, _<_, _≤_}
+use Prim.Native.Nat.{ℕ, _+_, _-_, _<_, _≤_, min}
 use native.Mathlib.Omega.{arith}
 use lib.ListN.{length, getD}
-use lib.Dec.{eqb, ltb}
+use lib.Dec.{eqb, ltb, lit≤}
 use Rattle.rules.specs.Limits.{ESCROWS, ESCROW-STATE, ESCROW-DEADLINE, IS-OPEN}
 use Rattle.rules.specs.Table.{word, loop}
 use Rattle.rules.specs.Ledger.{ledger}
-use Rattle.rules.specs.Settle.{Sweep, sweepEscrow, sweptReceipts, swept, sweep, done}
-use Rattle.rules.specs.declared.Submission.{Submission}
+use Rattle.rules.specs.Settle.{Sweep, sweepEscrow, sweptReceipts, swept, done}
+use Rattle.rules.specs.Due.{due}
 use Rattle.rules.proofs.Bools.{and-fst}
 use Rattle.rules.proofs.Good.{Good}
 use Rattle.rules.proofs.Stays.{Kept, kept-start, escrow-turn, loop-keeps}
+use Rattle.rules.proofs.SweepPlan.{sweep-counts}
 use Rattle.moves.specs.Needs.{ESCROW-LEN, Ends}
 use Rattle.moves.proofs.Bounds.{ends-of}
-use Rattle.sweeping.specs.Needs.{underWay, Expires, Sweeping, Expiring}
+use Rattle.sweeping.specs.Needs.{underWay, Expires, Expiring}
 use Rattle.sweeping.proofs.Turns.{loop-none, loop-next, loop-full, escrow-full}
 
 -- an escrow that is due can end
@@ -117,14 +118,18 @@ module _ (h w₀ e₀ : List ℕ) (time limit closed number : ℕ) (w e : List �
         (sym (ap (λ (t : Sweep). t .room) (far .far r j count)) ∙ z) (far .rows),
   )
 
--- THE SWEEP: both loops, and the word is what both have closed
+-- THE SWEEP: both loops, and the word is what both have closed, the smaller of the limit and the rows that were due
 pub swept-by :
-    (h w e r w₁ e₁ r₁ w₂ e₂ : List ℕ) (s : Submission) (a b : ℕ)
-    → ((j : List ℕ) → underWay (s .amount - a) a (ledger h w₁ e₁ r₁ j) ≡ sweptReceipts (s .now) (s .amount) (ledger h w e r j))
-    → ((r j : List ℕ) (count : ℕ) → underWay (s .amount - a - b) (count + b) (ledger h w₂ e₂ r j)
-    ≡ loop (getD h ESCROWS 0) (sweepEscrow (s .now)) (underWay (s .amount - a) count (ledger h w₁ e₁ r j)))
-    → (j : List ℕ)
-    → done (a + b) (ledger h w₂ e₂ r₁ j) ≡ sweep s (ledger h w e r j)
-unfolding sweep swept
-swept-by h w e r w₁ e₁ r₁ w₂ e₂ s a b p q j =
-    ap (λ (t : Sweep). done (t .closed) (t .tables)) (q r₁ j a ∙ ap (loop (getD h ESCROWS 0) (sweepEscrow (s .now))) (p j))
+    (h w e r w₁ e₁ r₁ w₂ e₂ : List ℕ) (time limit a b : ℕ)
+    → ((j : List ℕ) → underWay (limit - a) a (ledger h w₁ e₁ r₁ j) ≡ sweptReceipts time limit (ledger h w e r j))
+    → ((r j : List ℕ) (count : ℕ) → underWay (limit - a - b) (count + b) (ledger h w₂ e₂ r j)
+    ≡ loop (getD h ESCROWS 0) (sweepEscrow time) (underWay (limit - a) count (ledger h w₁ e₁ r j)))
+    → ((j : List ℕ) → done (a + b) (ledger h w₂ e₂ r₁ j) ≡ done (swept time limit (ledger h w e r j) .closed) (swept time limit (ledger h w e r j) .tables))
+    × (a + b ≡ min limit (due (ledger h w e r []) time))
+unfolding swept
+swept-by h w e r w₁ e₁ r₁ w₂ e₂ time limit a b p q =
+    let both : (j : List ℕ) → underWay (limit - a - b) (a + b) (ledger h w₂ e₂ r₁ j) ≡ swept time limit (ledger h w e r j) =
+    λ j. q r₁ j a ∙ ap (loop (getD h ESCROWS 0) (sweepEscrow time)) (p j) in (
+      λ j. ap (λ (t : Sweep). done (t .closed) (t .tables)) (both j),
+      ap (λ (t : Sweep). t .closed) (both []) ∙ sweep-counts time limit (ledger h w e r []) (lit≤ tt),
+    )

@@ -1,6 +1,6 @@
 -- The loop over the receipts: so far the tables, the room and the count are those of the definition's loop. A ledger that was good is good
 -- after each of its turns, so that the next receipt can be accepted.
-use mathlib.Core.Path.{_≡_, refl, sym, ap, ap₂, _∙_, subst}
+use mathlib.Core.Path.{_≡_, refl, sym, ap, _∙_, subst}
 use mathlib.Core.List.{List, []}
 use Prim.Native.Nat.{ℕ, _+_, _-_, _<_, _≤_}
 use native.Mathlib.Nat.{le-refl}

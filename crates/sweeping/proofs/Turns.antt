@@ -1,6 +1,6 @@
 -- One turn of a sweep, and a loop of turns: a row that is due is closed and counted, any other is passed over; once there is no room, what
 -- is left of the loop changes nothing, so the code may stop there.
-use mathlib.Core.Path.{_≡_, refl, sym, ap, _∙_, subst}
+use mathlib.Core.Path.{_≡_, refl, sym, ap, _∙_}
 use mathlib.Core.List.{List}
 use mathlib.Core.Bool.{Bool, true, false, _&&_}
 use Prim.Native.Nat.{ℕ, zero, suc, _+_, _-_, _<_, _≤_}

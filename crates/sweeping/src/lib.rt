@@ -1,7 +1,6 @@
 // The sweep: due receipts in row order first, then due escrows in row order, until its limit. Its word counts the rows that it closed.
 use rules::EscrowNumber;
 use rules::ReceiptNumber;
-use rules::Submission;
 use rules::limits::ACCEPTANCE_DEADLINE;
 use rules::limits::AUTO_ACCEPT;
 use rules::limits::ESCROW_DEADLINE;
@@ -16,15 +15,16 @@ use rules::limits::RECEIPT_LEN;
 use rules::limits::RECEIPT_STATE;
 use rules::limits::RECEIPTS;
 ghost use mathlib.Core.Path.{_≡_};
-ghost use mathlib.Core.List.{List};
+ghost use mathlib.Core.List.{List, []};
 ghost use mathlib.Core.Bool.{_&&_};
-ghost use Prim.Native.Nat.{ℕ, _+_, _-_, _<_, _≤_, _^_};
+ghost use Prim.Native.Nat.{ℕ, _+_, _-_, _<_, _≤_, _^_, min};
 ghost use lib.ListN.{getD};
 ghost use lib.Dec.{eqb, ltb};
 ghost use Rattle.rules.specs.Limits.{ESCROWS};
 ghost use Rattle.rules.specs.Table.{word, loop};
 ghost use Rattle.rules.specs.Ledger.{ledger};
-ghost use Rattle.rules.specs.Settle.{done, closeDueReceipt, sweepReceipt, sweepEscrow, sweptReceipts, sweep};
+ghost use Rattle.rules.specs.Settle.{done, closeDueReceipt, sweepReceipt, sweepEscrow, sweptReceipts, swept};
+ghost use Rattle.rules.specs.Due.{due};
 ghost use Rattle.moves.specs.Needs.{Accepts};
 ghost use Rattle.sweeping.specs.Needs.{underWay, Expires, Sweeping, Expiring};
 
@@ -184,19 +184,19 @@ fn sweep_escrows(
     }
 }
 
-// The sweep. Its limit is the record's amount.
+// The sweep: how many rows it closed, which is the smaller of its limit and the rows that were due.
 pub fn sweep(
     header: &[u64],
     wallets: &mut [u64],
     escrows: &mut [u64],
     receipts: &mut [u64],
-    s: Submission,
+    time: u64,
+    limit: u64,
 ) -> u64
-    requires { ⌜ Sweeping (now header) (now wallets) (now escrows) (now receipts) (s .now) ⌝ }
-    ensures { λ x. ⌜ ((j : List ℕ) → done x (ledger (now (header .entry)) (now (wallets .exit)) (now (escrows .exit)) (now (receipts .exit)) j) ≡ sweep s (ledger (now (header .entry)) (now (wallets .entry)) (now (escrows .entry)) (now (receipts .entry)) j)) ⌝ }
+    requires { ⌜ Sweeping (now header) (now wallets) (now escrows) (now receipts) time ⌝ }
+    ensures { λ x. ⌜ ((j : List ℕ) → done x (ledger (now (header .entry)) (now (wallets .exit)) (now (escrows .exit)) (now (receipts .exit)) j) ≡ done (swept time limit (ledger (now (header .entry)) (now (wallets .entry)) (now (escrows .entry)) (now (receipts .entry)) j) .closed) (swept time limit (ledger (now (header .entry)) (now (wallets .entry)) (now (escrows .entry)) (now (receipts .entry)) j) .tables)) × (x ≡ min limit (due (ledger (now (header .entry)) (now (wallets .entry)) (now (escrows .entry)) (now (receipts .entry)) []) time)) ⌝ }
 {
-    let limit = s.amount;
-    let accepted_or_lapsed = sweep_receipts(header, wallets, escrows, receipts, s.now, limit);
-    let expired = sweep_escrows(header, wallets, escrows, s.now, limit - accepted_or_lapsed);
-    accepted_or_lapsed + expired
+    let closed = sweep_receipts(header, wallets, escrows, receipts, time, limit);
+    let expired = sweep_escrows(header, wallets, escrows, time, limit - closed);
+    closed + expired
 }

@@ -1,5 +1,4 @@
 -- `moves::payee_row` meets its contract: the search for the recipient, or the sender's row as it was found.
-use mathlib.Core.Path.{_∙_}
 use borrow.Author.Tests.{eq-eqb, ne-eqb}
 use borrow.Author.Needs.{needs}
 use Rattle.moves.proofs.payee_row.Statement.{statement}

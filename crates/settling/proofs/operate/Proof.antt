@@ -1,4 +1,5 @@
 -- `settling::operate` meets its contract: each arm by its own contract, what that needs out of soundness and the refusals.
+use Rattle.rules.specs.Settle.{sweep}
 use Rattle.rules.proofs.Calls.{by-op}
 use Rattle.rules.specs.Limits.{GRANT, TRANSFER, OPEN, RELEASE, REFUND, CLAIM, ACCEPT, DISPUTE, SWEEP, FREEZE, CAPS}
 use Rattle.settling.proofs.Facts.{formed, granting, transferring, opening, releasing, refunding, claiming, accepting, disputing, swept, counted}
@@ -137,7 +138,8 @@ same-length-24 : tie.Need-same-length-24
 same-length-24 c = search needs
 
 returns-9 : tie.Need-returns-9
-returns-9 c = λ j. operated SWEEP _ _ _ (c .before .before .before .before .before .before .before .before .before .before .before .match .keys9) (c .before .before .before .before .before .before .sweep .ensures j)
+unfolding sweep
+returns-9 c = λ j. operated SWEEP _ _ _ (c .before .before .before .before .before .before .before .before .before .before .before .match .keys9) (c .before .before .before .before .before .before .sweep .ensures .0 j)
 
 same-length-25 : tie.Need-same-length-25
 same-length-25 c = search needs

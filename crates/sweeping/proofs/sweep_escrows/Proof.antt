@@ -2,7 +2,6 @@
 use Prim.Native.Nat.{_-_}
 use native.Mathlib.Omega.{arith}
 use Rattle.sweeping.proofs.Escrows.{SoFar, start, next, can-expire, ended, full}
-use borrow.Author.Needs.{needs}
 use Rattle.sweeping.proofs.sweep_escrows.Statement.{statement}
 use Rattle.sweeping.proofs.sweep_escrows.Tie as tie
 
