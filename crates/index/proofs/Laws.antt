@@ -75,6 +75,10 @@ hit-here ids n x s r l e q = rw q (record { within = l; has = λ _. e })
 pub hit-still : (ids : List ℕ) (n x s r : ℕ) → Hit ids n x s → r ≡ s → Hit ids n x r
 hit-still ids n x s r h q = rw q h
 
+-- where ids differ as copied, they differ in the table
+pub indexed-apart : (w : List ℕ) (n : ℕ) (ids t : List ℕ) → Indexed w n ids t → distinct n (λ i. word w WALLET-LEN i ID) ≡ true
+indexed-apart w n ids t c = sym (distinct-ext n (idAt ids) (λ i. word w WALLET-LEN i ID) (c .copied .same)) ∙ c .apart
+
 -- the number of a wallet, from a hit, from its first row, and where there is none
 pub number-row : (w : List ℕ) (n x row : ℕ) → row ≡ rowOf w n x → row < n → row + 1 ≡ numberOf w n x
 unfolding numberOf
@@ -88,9 +92,8 @@ pub number-hit : (w : List ℕ) (n : ℕ) (ids t : List ℕ) (x r : ℕ) → Ind
 number-hit w n ids t x zero c h z = absurd (z refl)
 number-hit w n ids t x (suc k) c h z =
     let l : k < n = omega (arith, h .within) in
-    let d : distinct n (λ i. word w WALLET-LEN i ID) ≡ true = sym (distinct-ext n (idAt ids) (λ i. word w WALLET-LEN i ID) (c .copied .same)) ∙ c .apart in
     let e : word w WALLET-LEN k ID ≡ x = sym (c .copied .same k l) ∙ (rw (← add-one k) at (h .has (omega arith))) in
-    sym (add-one k) ∙ number-row w n x k (sym (first-row w n x k d l e)) l
+    sym (add-one k) ∙ number-row w n x k (sym (first-row w n x k (indexed-apart w n ids t c) l e)) l
 
 -- the sender's number, where the recipient has a wallet and where it has none
 pub no-recipient : (w : List ℕ) (n from to b : ℕ) → b ≡ numberOf w n to → b ≡ 0 → 0 ≡ senderOf w n from to

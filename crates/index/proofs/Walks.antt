@@ -7,12 +7,17 @@ use native.Mathlib.Nat.{not-suc-le-zero}
 use native.Mathlib.Omega.{arith}
 use native.Mathlib.Decide.{ℕ-discrete, decLt}
 use lib.Dec.{eqb, ltb}
-use lib.ListN.{getD, set, length, length-set}
+use lib.ListN.{getD, set, length, length-set, replicate, length-replicate}
 use lib.Seq.{getD-set-same, getD-set-other, set-out}
 use borrow.Author.Tests.{eq-eqb, ne-eqb, eqb-true, eqb-false, lt-ltb}
 use Rattle.rules.specs.Table.{distinct}
+use Rattle.rules.proofs.Rows.{zeros}
 use Rattle.index.proofs.Laws.{taken-back}
-use Rattle.index.specs.Index.{ROOTS, BRANCHES, STEPS, idAt, Within, walked, walk, Seated, Filled}
+use Rattle.index.specs.Index.{ROOTS, BRANCHES, PLACES, STEPS, idAt, Within, walked, walk, Seated, Filled}
+
+-- an empty index proposes nothing
+pub within-empty : Within 0 (replicate PLACES 0)
+within-empty = record { room = length-replicate {A = ℕ} PLACES 0; most = λ p. omega (arith, zeros PLACES p) }
 
 -- the places propose one number more
 pub within-more : (n p : ℕ) (t : List ℕ) → Within n t → Within (n + 1) (set t p (n + 1))
