@@ -1,0 +1,3 @@
+-- Laws of the index.
+pub mod Laws
+pub mod Walks

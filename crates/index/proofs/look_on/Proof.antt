@@ -1,0 +1,33 @@
+-- `index::look_on` meets its contract: ids differ, so a number that has the id is that of the first row that has it.
+use native.Mathlib.Omega.{arith}
+use mathlib.Core.Path.{_≡_, sym, ap, _∙_}
+use Rattle.index.proofs.Laws.{number-row, number-none, number-hit}
+use borrow.Author.Needs.{needs}
+use Rattle.index.proofs.look_on.Statement.{statement}
+use Rattle.index.proofs.look_on.Tie as tie
+use Rattle.index.proofs.look_on.Reads as reads
+use Rattle.index.proofs.look_on.Lts as lts
+use Rattle.index.proofs.far.Reads as far-reads
+use Rattle.rows.proofs.find_row.Reads as find-row-reads
+
+far-requires : tie.Need-far-requires
+far-requires c κs = search needs
+
+returns : tie.Need-returns
+returns c = number-hit _ _ _ _ _ _ (c .before .before .before .pre) (c .before .far .ensures) (c .if1 .taken)
+
+find-row-requires : tie.Need-find-row-requires
+find-row-requires c κs = search needs
+
+add-result : tie.Need-add-result
+add-result c = search needs
+
+returns-2 : tie.Need-returns-2
+returns-2 c = number-row _ _ _ _ (c .before .find-row .ensures) (c .if2 .taken)
+
+returns-3 : tie.Need-returns-3
+returns-3 c = number-none _ _ _ _ (c .before .find-row .ensures) (c .if2 .left)
+
+pub look-on-spec : {M : Type 1} → statement M
+look-on-spec =
+    tie.close (tie.spec far-requires returns find-row-requires add-result returns-2 returns-3)

@@ -1,0 +1,8 @@
+-- Laws of the passes.
+pub mod Loops
+pub mod Totals
+pub mod Links
+pub mod Holds
+pub mod Parties
+pub mod Counted
+pub mod Whole

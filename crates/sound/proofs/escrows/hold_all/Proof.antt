@@ -1,0 +1,169 @@
+use Rattle.sound.proofs.Holds.{held-end}
+-- `escrows::hold_all` meets its contract. The loop's invariant: the escrows passed are right, and the sums are those over them.
+use native.Mathlib.Omega.{arith}
+use Prim.Native.Nat.{_+_, _*_, _≤_, _-_}
+use mathlib.Core.Path.{_≡_, sym, _∙_}
+use mathlib.Core.Bool.{true, false, false≢true}
+use borrow.Author.Tests.{not-true, not-false}
+use Rattle.rules.specs.Limits.{MAX-WALLETS, MAX-ESCROWS, MAX-AMOUNT-MICRO, FROM, TO}
+use Rattle.rules.specs.Table.{word, all, every}
+use Rattle.rules.specs.Sound.{escrowTests}
+use Rattle.rules.proofs.Counts.{every-none}
+use Rattle.index.proofs.Laws.{indexed-apart}
+use Rattle.sound.specs.Parts.{ESCROW-LEN, parties, Held, HeldAll}
+use Rattle.sound.proofs.Loops.{pass-on, fails, passes}
+use Rattle.sound.proofs.Holds.{Sent, sent, not-sent, sent-row, row-wrong, row-right, amount-most, sums-fit, held-more}
+use borrow.Author.Needs.{needs}
+use Rattle.sound.proofs.escrows.hold_all.Statement.{statement}
+use Rattle.sound.proofs.escrows.hold_all.Tie as tie
+use Rattle.sound.proofs.escrows.hold_all.Reads as reads
+use Rattle.sound.proofs.escrows.hold_all.Lts as lts
+use Rattle.index.proofs.sender.Reads as sender-reads
+use Rattle.sound.proofs.escrows.escrow_right.Reads as escrow-right-reads
+use Rattle.sound.proofs.escrows.held_in.Reads as held-in-reads
+
+abbrev Inv-loop : tie.InvT-loop
+Inv-loop w ids t n most e m sums₀ k₀ sums k =
+    (k ≤ m) × (every k (λ i. all (escrowTests (parties w n e m) i)) ≡ true) × Held w n e k sums
+
+abbrev μ-loop : tie.MeasureT-loop
+μ-loop w ids t n most e m sums₀ k₀ sums k = m - k
+
+loop-holds : tie.Need-loop-holds Inv-loop μ-loop
+loop-holds c = (search needs, every-none _, c .before .before .pre .2)
+
+escrow-right-requires : tie.Need-escrow-right-requires Inv-loop μ-loop
+escrow-right-requires c κs = search needs
+
+returns : tie.Need-returns Inv-loop μ-loop
+returns c =
+    let a = c .before .before .before .before .before .before .args in
+    record {
+      right =
+          fails _ (c .before .before .before .loop .k) _ (search needs)
+          (row-wrong (a .w .now) (a .n) (a .e .now) (a .m) _ _ (c .before .escrow-right .ensures) (not-true _ (c .if1 .taken)));
+      held = λ z. absurd (false≢true z);
+    }
+
+mul-sender : tie.Need-mul-sender Inv-loop μ-loop
+mul-sender c = search needs
+
+add-sender : tie.Need-add-sender Inv-loop μ-loop
+add-sender c = search needs
+
+mul-sender-2 : tie.Need-mul-sender-2 Inv-loop μ-loop
+mul-sender-2 c = search needs
+
+shared-slice-read-sender : tie.Need-shared-slice-read-sender Inv-loop μ-loop
+shared-slice-read-sender c = search needs
+
+mul-sender-3 : tie.Need-mul-sender-3 Inv-loop μ-loop
+mul-sender-3 c = search needs
+
+add-sender-2 : tie.Need-add-sender-2 Inv-loop μ-loop
+add-sender-2 c = search needs
+
+mul-sender-4 : tie.Need-mul-sender-4 Inv-loop μ-loop
+mul-sender-4 c = search needs
+
+shared-slice-read-sender-2 : tie.Need-shared-slice-read-sender-2 Inv-loop μ-loop
+shared-slice-read-sender-2 c = search needs
+
+sender-requires : tie.Need-sender-requires Inv-loop μ-loop
+sender-requires c κs = search needs
+
+returns-2 : tie.Need-returns-2 Inv-loop μ-loop
+returns-2 c =
+    record {
+      right = fails _ (c .before .before .before .before .before .before .before .loop .k) _ (search needs) (not-sent _ _ _ _ _ _ (c .before .sender .ensures) (c .if2 .taken));
+      held = λ z. absurd (false≢true z);
+    }
+
+-- both wallets are written
+was-sent : (c : tie.Else2 Inv-loop μ-loop) → Sent (c .before .before .before .before .before .before .before .before .before .before .args .w .now) (c .before .before .before .before .before .before .before .before .before .before .args .n) (word (c .before .before .before .before .before .before .before .before .before .before .args .e .now) ESCROW-LEN (c .before .before .before .before .before .before .before .loop .k) FROM) (word (c .before .before .before .before .before .before .before .before .before .before .args .e .now) ESCROW-LEN (c .before .before .before .before .before .before .before .loop .k) TO) (c .before .sender .result)
+was-sent c = sent _ _ _ _ _ (c .before .sender .ensures) (c .if2 .left)
+
+-- the escrow is right
+is-right : (c : tie.Else2 Inv-loop μ-loop) → all (escrowTests (parties (c .before .before .before .before .before .before .before .before .before .before .args .w .now) (c .before .before .before .before .before .before .before .before .before .before .args .n) (c .before .before .before .before .before .before .before .before .before .before .args .e .now) (c .before .before .before .before .before .before .before .before .before .before .args .m)) (c .before .before .before .before .before .before .before .loop .k)) ≡ true
+is-right c =
+    let a = c .before .before .before .before .before .before .before .before .before .before .args in
+    row-right (a .w .now) (a .n) (a .e .now) (a .m) (c .before .before .before .before .before .before .before .loop .k) _ _ (c .before .before .before .before .before .escrow-right .ensures) (not-false _ (c .before .before .before .before .if1 .left)) (was-sent c)
+
+-- the sender's number is one
+numbered : (c : tie.Else2 Inv-loop μ-loop) → c .before .sender .result ≤ MAX-WALLETS
+numbered c = omega (arith, was-sent c .numbered, sent-row _ _ _ _ _ (was-sent c), c .before .before .before .before .before .before .before .before .before .before .pre .0 .few)
+
+mul-sums : tie.Need-mul-sums Inv-loop μ-loop
+mul-sums c = omega (arith, numbered c)
+
+element-copy-out-sums : tie.Need-element-copy-out-sums Inv-loop μ-loop
+element-copy-out-sums c = omega (arith, numbered c)
+
+held-in-requires : tie.Need-held-in-requires Inv-loop μ-loop
+held-in-requires c κs = search needs
+
+add-sums : tie.Need-add-sums Inv-loop μ-loop
+add-sums c =
+    let d = c .before .before in
+    let l = c .before .before .before .before .before .before .before .before .before .loop in
+    omega (arith, sums-fit _ _ _ (c .before .before .before .before .before .before .before .before .before .before .before .before .args .m) (l .k) _ _ _ _ _ (l .inv .2) (l .inv .1) (is-right d) (was-sent d) (omega (arith, c .before .before .before .before .before .before .before .before .before .before .before .before .pre .0 .fewer)) (c .held-in .ensures))
+
+mul-sums-2 : tie.Need-mul-sums-2 Inv-loop μ-loop
+mul-sums-2 c = omega (arith, numbered (c .before .before))
+
+element-write-sums : tie.Need-element-write-sums Inv-loop μ-loop
+element-write-sums c = omega (arith, numbered (c .before .before))
+
+add-k : tie.Need-add-k Inv-loop μ-loop
+add-k c = search needs
+
+loop-less : tie.Need-loop-less Inv-loop μ-loop
+loop-less c = search needs
+
+loop-again : tie.Need-loop-again Inv-loop μ-loop
+loop-again c =
+    let d = c .before .before in
+    let l = c .before .before .before .before .before .before .before .before .before .loop in
+    let p = c .before .before .before .before .before .before .before .before .before .before .before .before .pre in (
+      search needs,
+      pass-on _ _ (l .inv .1) (is-right d),
+      held-more _ _ _ _ _ _ _ _ (l .inv .2) (indexed-apart _ _ _ _ (p .1)) (p .0 .few) (was-sent d) (c .held-in .ensures),
+    )
+
+returns-3 : tie.Need-returns-3 Inv-loop μ-loop
+returns-3 c =
+    let l = c .before .loop in
+    record {
+      right = passes _ _ _ (l .inv .0) (c .loop-test .left) (l .inv .1);
+      held = λ _. held-end _ _ _ _ (l .k) _ (l .inv .0) (c .loop-test .left) (l .inv .2);
+    }
+
+pub hold-all-spec : {M : Type 1} → statement M
+hold-all-spec =
+    tie.close
+    (tie.spec
+    Inv-loop
+    μ-loop
+    loop-holds
+    escrow-right-requires
+    returns
+    mul-sender
+    add-sender
+    mul-sender-2
+    shared-slice-read-sender
+    mul-sender-3
+    add-sender-2
+    mul-sender-4
+    shared-slice-read-sender-2
+    sender-requires
+    returns-2
+    mul-sums
+    element-copy-out-sums
+    held-in-requires
+    add-sums
+    mul-sums-2
+    element-write-sums
+    add-k
+    loop-less
+    loop-again
+    returns-3)

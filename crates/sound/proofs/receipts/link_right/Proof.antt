@@ -1,0 +1,102 @@
+use Rattle.rules.specs.Limits.{RECEIPT-LEN, REQUESTER, PROVIDER}
+use Rattle.rules.specs.Table.{word}
+-- `receipts::link_right` meets its contract: a link that is 0 or within the written escrows has its row one before it.
+use mathlib.Core.Path.{_≡_, refl}
+use Rattle.sound.proofs.Links.{link-past, link-within}
+use borrow.Author.Needs.{needs}
+use Rattle.sound.proofs.receipts.link_right.Statement.{statement}
+use Rattle.sound.proofs.receipts.link_right.Tie as tie
+use Rattle.sound.proofs.receipts.link_right.Reads as reads
+use Rattle.sound.proofs.receipts.link_right.Lts as lts
+use Rattle.sound.proofs.receipts.row_at.Reads as row-at-reads
+
+mul-at : tie.Need-mul-at
+mul-at c = search needs
+
+add-link : tie.Need-add-link
+add-link c = search needs
+
+mul-link : tie.Need-mul-link
+mul-link c = search needs
+
+shared-slice-read-link : tie.Need-shared-slice-read-link
+shared-slice-read-link c = search needs
+
+returns : tie.Need-returns
+returns c = link-past _ _ _ (c .if1 .taken)
+
+row-at-requires : tie.Need-row-at-requires
+row-at-requires c κs = search needs
+
+mul-result : tie.Need-mul-result
+mul-result c = search needs
+
+add-result : tie.Need-add-result
+add-result c = search needs
+
+mul-result-2 : tie.Need-mul-result-2
+mul-result-2 c = search needs
+
+shared-slice-read-result : tie.Need-shared-slice-read-result
+shared-slice-read-result c = search needs
+
+add-result-2 : tie.Need-add-result-2
+add-result-2 c = search needs
+
+mul-result-3 : tie.Need-mul-result-3
+mul-result-3 c = search needs
+
+shared-slice-read-result-2 : tie.Need-shared-slice-read-result-2
+shared-slice-read-result-2 c = search needs
+
+mul-result-4 : tie.Need-mul-result-4
+mul-result-4 c = search needs
+
+add-result-3 : tie.Need-add-result-3
+add-result-3 c = search needs
+
+mul-result-5 : tie.Need-mul-result-5
+mul-result-5 c = search needs
+
+shared-slice-read-result-3 : tie.Need-shared-slice-read-result-3
+shared-slice-read-result-3 c = search needs
+
+add-result-4 : tie.Need-add-result-4
+add-result-4 c = search needs
+
+mul-result-6 : tie.Need-mul-result-6
+mul-result-6 c = search needs
+
+shared-slice-read-result-4 : tie.Need-shared-slice-read-result-4
+shared-slice-read-result-4 c = search needs
+
+returns-2 : tie.Need-returns-2
+returns-2 c =
+    let a = c .before .before .before .before .before .before .before .before .before .args in
+    link-within (a .e .now) _ _ _ (word (a .r .now) RECEIPT-LEN (a .k) REQUESTER) (word (a .r .now) RECEIPT-LEN (a .k) PROVIDER) (c .before .before .before .before .before .if1 .left) (c .before .before .before .before .row-at .ensures)
+
+pub link-right-spec : {M : Type 1} → statement M
+link-right-spec =
+    tie.close
+    (tie.spec
+    mul-at
+    add-link
+    mul-link
+    shared-slice-read-link
+    returns
+    row-at-requires
+    mul-result
+    add-result
+    mul-result-2
+    shared-slice-read-result
+    add-result-2
+    mul-result-3
+    shared-slice-read-result-2
+    mul-result-4
+    add-result-3
+    mul-result-5
+    shared-slice-read-result-3
+    add-result-4
+    mul-result-6
+    shared-slice-read-result-4
+    returns-2)

@@ -1,0 +1,69 @@
+// Whether a ledger is sound, exactly, for any words: one pass over each table.
+ghost use mathlib.Core.Path.{_≡_};
+ghost use mathlib.Core.Bool.{true};
+ghost use lib.ListN.{length};
+ghost use Rattle.rules.specs.Table.{all};
+ghost use Rattle.rules.specs.Ledger.{ledger, lengthsRight};
+ghost use Rattle.rules.specs.Sound.{headerTests, sound};
+use rules::limits::CLOCK;
+use rules::limits::EDITION;
+use rules::limits::ENTRIES;
+use rules::limits::ESCROW_LEN;
+use rules::limits::ESCROWS;
+use rules::limits::GRANTED;
+use rules::limits::JOURNAL_LEN;
+use rules::limits::LAST_TIME_MS;
+use rules::limits::RECEIPT_LEN;
+use rules::limits::RECEIPTS;
+use rules::limits::SYSTEM_FROZEN;
+use rules::limits::WALLET_LEN;
+use rules::limits::WALLETS;
+
+mod escrows;
+mod journal;
+mod receipts;
+mod wallets;
+
+// The edition, a flag, the clock, and counts within their tables.
+fn header_right(
+    header: &[u64],
+    wallets: &[u64],
+    escrows: &[u64],
+    receipts: &[u64],
+    journal: &[u64],
+) -> bool
+    requires { ⌜ length (now header) ≡ 8 ⌝ }
+    ensures { λ r. ⌜ r ≡ all (headerTests (ledger (now (header .entry)) (now (wallets .entry)) (now (escrows .entry)) (now (receipts .entry)) (now (journal .entry)))) ⌝ }
+{
+    (header[EDITION] == 1)
+        & ((header[SYSTEM_FROZEN] <= 1)
+            & ((header[CLOCK] <= LAST_TIME_MS)
+                & ((header[WALLETS] as usize <= wallets.len() / WALLET_LEN)
+                    & ((header[ESCROWS] as usize <= escrows.len() / ESCROW_LEN)
+                        & ((header[RECEIPTS] as usize <= receipts.len() / RECEIPT_LEN)
+                            & (header[ENTRIES] as usize <= journal.len() / JOURNAL_LEN))))))
+}
+
+// Whether the ledger is sound. Its tables have the right lengths.
+pub fn is_sound(
+    header: &[u64],
+    wallets: &[u64],
+    escrows: &[u64],
+    receipts: &[u64],
+    journal: &[u64],
+) -> bool
+    requires { ⌜ lengthsRight (ledger (now header) (now wallets) (now escrows) (now receipts) (now journal)) ≡ true ⌝ }
+    ensures { λ r. ⌜ r ≡ sound (ledger (now (header .entry)) (now (wallets .entry)) (now (escrows .entry)) (now (receipts .entry)) (now (journal .entry))) ⌝ }
+{
+    if !header_right(header, wallets, escrows, receipts, journal) {
+        return false;
+    }
+    let n = header[WALLETS] as usize;
+    let m = header[ESCROWS] as usize;
+    let each = wallets::wallets_right(wallets, n);
+    let parties = escrows::parties_right(wallets, n, escrows, m);
+    let linked = receipts::receipts_right(escrows, m, receipts, header[RECEIPTS] as usize);
+    let entries = journal::entries_right(journal, header[ENTRIES] as usize);
+    let total = wallets::total_right(wallets, n, header[GRANTED]);
+    each & (parties & (linked & (entries & total)))
+}

@@ -1,0 +1,72 @@
+// Receipts: a link, times, a flag, a state.
+ghost use mathlib.Core.Path.{_≡_};
+ghost use Prim.Native.Nat.{_+_, _-_, _*_, _≤_};
+ghost use lib.ListN.{length};
+ghost use Rattle.rules.specs.Limits.{RECEIPT-LEN};
+ghost use Rattle.rules.specs.Table.{all, every};
+ghost use Rattle.rules.specs.Sound.{linkRight, receiptTests};
+ghost use Rattle.sound.specs.Parts.{ESCROW-LEN, receiptsIn};
+use rules::limits::ACCEPTANCE_DEADLINE;
+use rules::limits::AUTO_ACCEPT;
+use rules::limits::CLAIMED_AT;
+use rules::limits::ESCROW_LEN;
+use rules::limits::FROM;
+use rules::limits::LAST_TIME_MS;
+use rules::limits::PROVIDER;
+use rules::limits::RECEIPT_CLOSED_AT;
+use rules::limits::RECEIPT_LEN;
+use rules::limits::RECEIPT_LINK;
+use rules::limits::RECEIPT_STATE;
+use rules::limits::REQUESTER;
+use rules::limits::TO;
+
+// The row of a number; for 0 row 0, which is read and not used, so that the test of 0, which no one can foresee, is no branch.
+fn row_at(number: usize) -> usize
+    ensures { λ r. ⌜ r ≡ number - 1 ⌝ }
+{
+    if number == 0 { 0 } else { number - 1 }
+}
+
+// A link is 0, or a written escrow from the requester to the provider.
+fn link_right(e: &[u64], m: usize, r: &[u64], k: usize) -> bool
+    requires { ⌜ (m * ESCROW-LEN ≤ length (now e)) × (ESCROW-LEN ≤ length (now e)) × (k * RECEIPT-LEN + RECEIPT-LEN ≤ length (now r)) ⌝ }
+    ensures { λ x. ⌜ x ≡ linkRight (receiptsIn (now (e .entry)) m (now (r .entry))) k ⌝ }
+{
+    let at = k * RECEIPT_LEN;
+    let link = r[at + RECEIPT_LINK] as usize;
+    if m < link {
+        return false;
+    }
+    let row = row_at(link);
+    (link == 0)
+        | ((e[row * ESCROW_LEN + FROM] == r[at + REQUESTER])
+            & (e[row * ESCROW_LEN + TO] == r[at + PROVIDER]))
+}
+
+fn receipt_right(e: &[u64], m: usize, r: &[u64], k: usize) -> bool
+    requires { ⌜ (m * ESCROW-LEN ≤ length (now e)) × (ESCROW-LEN ≤ length (now e)) × (k * RECEIPT-LEN + RECEIPT-LEN ≤ length (now r)) ⌝ }
+    ensures { λ x. ⌜ x ≡ all (receiptTests (receiptsIn (now (e .entry)) m (now (r .entry))) k) ⌝ }
+{
+    let link = link_right(e, m, r, k);
+    let at = k * RECEIPT_LEN;
+    let state = r[at + RECEIPT_STATE];
+    link
+        & ((r[at + ACCEPTANCE_DEADLINE] <= LAST_TIME_MS)
+            & ((r[at + CLAIMED_AT] <= LAST_TIME_MS)
+                & ((r[at + RECEIPT_CLOSED_AT] <= LAST_TIME_MS)
+                    & ((r[at + AUTO_ACCEPT] <= 1) & ((1 <= state) & (state <= 4))))))
+}
+
+pub fn receipts_right(e: &[u64], m: usize, r: &[u64], p: usize) -> bool
+    requires { ⌜ (m * ESCROW-LEN ≤ length (now e)) × (ESCROW-LEN ≤ length (now e)) × (p * RECEIPT-LEN ≤ length (now r)) ⌝ }
+    ensures { λ x. ⌜ x ≡ every p (λ i. all (receiptTests (receiptsIn (now (e .entry)) m (now (r .entry))) i)) ⌝ }
+{
+    let mut k: usize = 0;
+    while k < p {
+        if !receipt_right(e, m, r, k) {
+            return false;
+        }
+        k += 1;
+    }
+    true
+}
