@@ -1,6 +1,6 @@
 //! Whole histories: a start and the steps taken from it.
 
-use milebeacon::Sizes;
+use milebeacon::{ffi, Sizes};
 
 use crate::dice::Dice;
 use crate::lookups;
@@ -100,16 +100,17 @@ impl History {
         Ok(twin)
     }
 
-    /// The records, one after another, each as both programs were given it.
+    /// The records, one after another, each as both programs were given it. The core goes through the
+    /// tables here: it answers whatever it is given, where a wrong second program may panic.
     pub fn records(&self) -> Vec<Vec<u8>> {
         let mut world = self.world();
         if self.begin == Begin::Fresh {
-            second::fresh(&mut crate::twin::lent(&mut world));
+            ffi::fresh(world.as_mut());
         }
         let mut records: Vec<Vec<u8>> = Vec::new();
         for step in &self.steps {
             let record = step.record(&world, records.last().map_or(&[], Vec::as_slice));
-            second::submit(&mut crate::twin::lent(&mut world), &record);
+            ffi::submit(world.as_mut(), &record);
             records.push(record);
         }
         records
