@@ -14,7 +14,7 @@ pub const ROOM: usize = 16;
 pub enum Ids {
     /// 1001, 1002, ..
     InARow,
-    /// Equal in their low 50 bits, as parties might choose them to make a search slow.
+    /// Equal in their low 54 bits, as parties might choose them to make a search slow.
     Alike,
 }
 
@@ -22,7 +22,7 @@ pub enum Ids {
 pub fn id(ids: Ids, place: usize) -> u64 {
     match ids {
         Ids::InARow => 1_001 + place as u64,
-        Ids::Alike => 7 + ((place as u64) << 50),
+        Ids::Alike => 7 + ((place as u64) << 54),
     }
 }
 

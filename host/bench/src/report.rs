@@ -73,7 +73,7 @@ pub fn sizes(rows: &[(&str, Sizes, Costs, Stores)]) -> String {
 /// Whether ids that look alike make the core slower.
 pub fn alike(usual: &Costs, alike: &Costs) -> String {
     format!(
-        "\n| full tables, one submit in µs | ids in a row | ids alike in 50 bits | ratio |\n\
+        "\n| full tables, one submit in µs | ids in a row | ids alike in 54 bits | ratio |\n\
          |---|---:|---:|---:|\n| core | {:.1} | {:.1} | {:.2} |\n",
         usual.core_submit,
         alike.core_submit,

@@ -63,6 +63,18 @@ fn one_round(seed: u64, round: u64, tally: &mut Tally) -> Result<(), Failure> {
         )?;
     }
     let (broken, kept) = (Outcome::Damaged, Outcome::Sound);
+    if round % 64 == 2 {
+        // one clause of largest tables; not every ledger has the rows for it
+        let ((name, change), outcome) = match dice.below(3) {
+            0 => (dice.pick(LIMITS), kept),
+            _ => (dice.pick(BREAKS), broken),
+        };
+        let mut world = lent(dice, Sizes::LARGEST);
+        if change(&mut world, dice) {
+            judged(world, dice, tally, outcome)
+                .map_err(|d| Failure(format!("largest tables, {name}: {d}")))?;
+        }
+    }
     for (name, change) in BREAKS {
         changed(dice, tally, *change, broken).map_err(|d| Failure(format!("not {name}: {d}")))?;
     }
@@ -94,11 +106,16 @@ enum Outcome {
     Damaged,
 }
 
-/// A sound ledger of small tables, by chance.
-fn lent(dice: &mut Dice) -> World {
-    let sizes = small_sizes(dice);
+/// A sound ledger of these sizes, by chance.
+fn lent(dice: &mut Dice, sizes: Sizes) -> World {
     let filled = Filled::roll(dice, sizes);
     sound(dice, sizes, filled)
+}
+
+/// The same of small sizes.
+fn small(dice: &mut Dice) -> World {
+    let sizes = small_sizes(dice);
+    lent(dice, sizes)
 }
 
 /// Submits a step, then bytes that are no record: the answer to those says whether both programs
@@ -118,10 +135,10 @@ fn changed(
     change: Change,
     outcome: Outcome,
 ) -> Result<(), Difference> {
-    let mut world = lent(dice);
+    let mut world = small(dice);
     let mut tries = 0;
     while !change(&mut world, dice) {
-        world = lent(dice);
+        world = small(dice);
         tries += 1;
         if tries > 1_000 {
             return Err(Difference(
@@ -129,6 +146,16 @@ fn changed(
             ));
         }
     }
+    judged(world, dice, tally, outcome)
+}
+
+/// Both programs must take the ledger for what it is.
+fn judged(
+    world: World,
+    dice: &mut Dice,
+    tally: &mut Tally,
+    outcome: Outcome,
+) -> Result<(), Difference> {
     let number = asked(&mut Twin::new(world), dice, tally)?;
     let expected = if outcome == Outcome::Damaged { 2 } else { 3 };
     if number == expected {
@@ -146,7 +173,7 @@ fn anything(
     tally: &mut Tally,
     change: fn(&mut World, &mut Dice),
 ) -> Result<(), Difference> {
-    let mut world = lent(dice);
+    let mut world = small(dice);
     change(&mut world, dice);
     let mut twin = Twin::new(world);
     lookups::all(twin.world(), dice, tally)?;

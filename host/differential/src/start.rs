@@ -117,13 +117,15 @@ pub fn sound(dice: &mut Dice, sizes: Sizes, filled: Filled) -> World {
 /// between, as a party might choose them to make a search by hash slow.
 fn ids(dice: &mut Dice, count: usize) -> Vec<u64> {
     let first = dice.between(1, 9);
-    let kind = dice.below(4);
+    let kind = dice.below(6);
     (0..count as u64)
         .map(|k| match kind {
             0 => first + k,
             1 => u64::MAX - k,
-            2 => first + (k << 50),
-            _ => first + (k << 20),
+            2 => first + (k << 54),
+            3 => first + (k << 50),
+            4 => first + (k << 20),
+            _ => first + (k << 13),
         })
         .collect()
 }
