@@ -11,7 +11,7 @@ use lib.Dec.{eqb, ltb, leb}
 use lib.ListN.{getD, set, length, length-set, drop}
 use lib.Seq.{getD-set-same, getD-set-other}
 use borrow.Author.Tests.{eq-eqb, ne-eqb, eqb-true, ltb-true, leb-true}
-use Rattle.rules.specs.Limits.{WALLET-LEN, MAX-WALLETS, MAX-ESCROWS, MAX-AMOUNT-MICRO, ID, FROM, TO, ESCROW-AMOUNT, ESCROW-STATE, IS-OPEN}
+use Rattle.rules.specs.Limits.{ESCROW-LEN, WALLET-LEN, MAX-WALLETS, MAX-ESCROWS, MAX-AMOUNT-MICRO, ID, FROM, TO, ESCROW-AMOUNT, ESCROW-STATE, IS-OPEN}
 use Rattle.rules.specs.Table.{word, all, every, distinct, sum}
 use Rattle.rules.specs.Ledger.{rowOf}
 use Rattle.rules.specs.Sound.{escrowTests, heldIn}
@@ -20,7 +20,7 @@ use Rattle.rules.proofs.Counts.{every-at, sum-step, sum-most}
 use Rattle.rules.proofs.Seek.{seek-hit}
 use Rattle.index.specs.Index.{NUMBERS, numberOf, senderOf}
 use Rattle.index.proofs.Laws.{first-row}
-use Rattle.sound.specs.Parts.{ESCROW-LEN, parties, heldOf, Held}
+use Rattle.sound.specs.Parts.{parties, heldOf, Held}
 
 -- an escrow's two wallets are written, and the sender has this number
 pub record Sent (w : List ℕ) (n from to number : ℕ) : Type 0 where

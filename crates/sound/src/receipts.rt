@@ -2,10 +2,10 @@
 ghost use mathlib.Core.Path.{_≡_};
 ghost use Prim.Native.Nat.{_+_, _-_, _*_, _≤_};
 ghost use lib.ListN.{length};
-ghost use Rattle.rules.specs.Limits.{RECEIPT-LEN};
+ghost use Rattle.rules.specs.Limits.{ESCROW-LEN, RECEIPT-LEN};
 ghost use Rattle.rules.specs.Table.{all, every};
 ghost use Rattle.rules.specs.Sound.{linkRight, receiptTests};
-ghost use Rattle.sound.specs.Parts.{ESCROW-LEN, receiptsIn};
+ghost use Rattle.sound.specs.Parts.{receiptsIn};
 use rules::limits::ACCEPTANCE_DEADLINE;
 use rules::limits::AUTO_ACCEPT;
 use rules::limits::CLAIMED_AT;

@@ -5,12 +5,12 @@ use Prim.Native.Nat.{_+_, _*_, _≤_, _-_}
 use mathlib.Core.Path.{_≡_, sym, _∙_}
 use mathlib.Core.Bool.{true, false, false≢true}
 use borrow.Author.Tests.{not-true, not-false}
-use Rattle.rules.specs.Limits.{MAX-WALLETS, MAX-ESCROWS, MAX-AMOUNT-MICRO, FROM, TO}
+use Rattle.rules.specs.Limits.{ESCROW-LEN, MAX-WALLETS, MAX-ESCROWS, MAX-AMOUNT-MICRO, FROM, TO}
 use Rattle.rules.specs.Table.{word, all, every}
 use Rattle.rules.specs.Sound.{escrowTests}
 use Rattle.rules.proofs.Counts.{every-none}
 use Rattle.index.proofs.Laws.{indexed-apart}
-use Rattle.sound.specs.Parts.{ESCROW-LEN, parties, Held, HeldAll}
+use Rattle.sound.specs.Parts.{parties, Held, HeldAll}
 use Rattle.sound.proofs.Loops.{pass-on, fails, passes}
 use Rattle.sound.proofs.Holds.{Sent, sent, not-sent, sent-row, row-wrong, row-right, amount-most, sums-fit, held-more}
 use borrow.Author.Needs.{needs}
