@@ -1,10 +1,10 @@
 -- Any two answers that a contract permits are equal: each contract is an equation, so both are what the definition gives.
 use mathlib.Core.Path.{_≡_, sym, ap, _∙_}
 use mathlib.Core.List.{List}
-use mathlib.Core.Bool.{Bool}
 use Prim.Native.Nat.{ℕ}
-use Rattle.rules.specs.Ledger.{Ledger, Outcome, outcome, first-edition, lengthsRight, fresh}
-use Rattle.rules.specs.Lookup.{partAt, escrowPlace, receiptPlace, escrowPart, receiptPart, walletNumber}
+use Rattle.rules.specs.Ledger.{Ledger, Outcome, outcome, first-edition, fresh}
+use Rattle.rules.specs.Submit.{submit}
+use Rattle.rules.specs.Lookup.{escrowPlace, receiptPlace, escrowPart, receiptPart, walletNumber}
 use Rattle.rows.specs.Part.{placed}
 
 one : {A : Type 0} {x y a : A} → x ≡ a → y ≡ a → x ≡ y
@@ -14,8 +14,12 @@ one p q = p ∙ sym q
 pub one-fresh : (L L₁ L₂ : Ledger) (n₁ n₂ : ℕ) → outcome n₁ 0 L₁ ≡ fresh L → outcome n₂ 0 L₂ ≡ fresh L → (n₁ ≡ n₂) × (L₁ ≡ L₂)
 one-fresh L L₁ L₂ n₁ n₂ p q = let e = one p q in (ap (λ (o : Outcome). o .number) e, ap (λ (o : Outcome). o .left) e)
 
-pub one-lengths : (L : Ledger) (a b : Bool) → a ≡ lengthsRight L → b ≡ lengthsRight L → a ≡ b
-one-lengths L a b p q = one p q
+-- the two answers of a submission: numbers, words, and the five tables
+pub one-submit : (L L₁ L₂ : Ledger) (b : List ℕ) (n₁ n₂ w₁ w₂ : ℕ) → outcome n₁ w₁ L₁ ≡ submit L b → outcome n₂ w₂ L₂ ≡ submit L b
+    → (n₁ ≡ n₂) × (w₁ ≡ w₂) × (L₁ ≡ L₂)
+one-submit L L₁ L₂ b n₁ n₂ w₁ w₂ p q =
+    let e = one p q in
+    (ap (λ (o : Outcome). o .number) e, ap (λ (o : Outcome). o .word) e, ap (λ (o : Outcome). o .left) e)
 
 -- two parts: their words, and their places in memory
 one-part : (words : List ℕ) (place : ℕ × ℕ) (r₁ r₂ : List ℕ) (p₁ p₂ : ℕ × ℕ) → (r₁ ≡ words) × (p₁ ≡ place) → (r₂ ≡ words) × (p₂ ≡ place)

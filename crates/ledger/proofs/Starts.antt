@@ -1,17 +1,16 @@
 -- Starting afresh, over plain values: the five lengths from their tests, the header that is left, and the refusal.
-use mathlib.Core.Path.{_≡_, refl, sym, ap, _∙_, subst}
-use mathlib.Core.List.{List, [], _∷_, _++_, append-nil}
+use mathlib.Core.Path.{_≡_, sym, _∙_}
+use mathlib.Core.List.{List}
 use mathlib.Core.Bool.{Bool, true, false, not, _&&_}
-use Prim.Native.Nat.{ℕ, _+_, _≤_}
-use native.Mathlib.Omega.{arith}
+use Prim.Native.Nat.{ℕ}
 use lib.Dec.{eqb}
-use lib.ListN.{length, drop, drop-of-length-le}
-use lib.Seq.{sets, sets-eq}
+use lib.ListN.{length}
 use borrow.Author.Tests.{eqb-true}
 use Rattle.rules.specs.Limits.{WALLET-LEN, RECEIPT-LEN, JOURNAL-LEN, MAX-WALLETS, MAX-ESCROWS, MAX-RECEIPTS, MAX-ENTRIES}
 use Rattle.rules.specs.Table.{putRow, tableRight}
 use Rattle.rules.specs.Ledger.{Ledger, ledger, outcome, lengthTests, lengthsRight, fresh, freshHeader, first-edition}
 use Rattle.rules.proofs.Bools.{all-at, not-true-false, not-false-true}
+use Rattle.rules.proofs.Rows.{sets-whole}
 
 -- the five tests as the code joins them
 pub lengths-by : (h w e r j : List ℕ) {wr er rr jr : Bool} → wr ≡ tableRight WALLET-LEN MAX-WALLETS w → er ≡ tableRight 8 MAX-ESCROWS e
@@ -24,13 +23,6 @@ pub header-length : (L : Ledger) → lengthsRight L ≡ true → length (L .head
 unfolding lengthsRight
 header-length L t = eqb-true (length (L .header)) (L .edition .headerLen) (all-at (lengthTests L) t 0)
 
--- a row as long as the table is the table
-pub whole : (t vs : List ℕ) → length t ≡ length vs → sets t 0 vs ≡ vs
-whole t vs e =
-    let l : 0 + length vs ≤ length t = omega arith in
-    let g : length t ≤ 0 + length vs = omega arith in
-    sets-eq vs t 0 l ∙ ap (λ (x : List ℕ). vs ++ x) (drop-of-length-le t g) ∙ append-nil vs
-
 pub refused : (L : Ledger) {b : Bool} → b ≡ lengthsRight L → not b ≡ true → outcome 1 0 L ≡ fresh L
 unfolding fresh
 refused L {b} x n = rw (sym x ∙ not-true-false b n)
@@ -40,5 +32,5 @@ pub started : (h h′ w e r j : List ℕ) {b : Bool} → b ≡ lengthsRight (led
 unfolding fresh
 started h h′ w e r j {b} x n p =
     let t : lengthsRight (ledger h w e r j) ≡ true = sym x ∙ not-false-true b n in
-    let q : h′ ≡ freshHeader first-edition = p ∙ whole h (freshHeader first-edition) (header-length (ledger h w e r j) t) in
+    let q : h′ ≡ freshHeader first-edition = p ∙ sets-whole h (freshHeader first-edition) (header-length (ledger h w e r j) t) in
     rw (t, q)

@@ -2,18 +2,16 @@
 use mathlib.Core.Path.{_≡_, refl, sym, ap, _∙_, subst}
 use mathlib.Core.Logic.{_≢_}
 use mathlib.Core.List.{List, _++_}
-use mathlib.Core.Bool.{Bool, true, false, not, cond}
+use mathlib.Core.Bool.{Bool, true, false, cond}
 use Prim.Native.Nat.{ℕ, zero, suc}
 use native.Mathlib.Omega.{arith}
 use lib.Dec.{eqb}
-use borrow.Author.Tests.{ne-eqb, eq-eqb}
-use Rattle.rules.specs.Ledger.{Ledger, Outcome, outcome, lengthsRight}
+use Rattle.rules.specs.Ledger.{Ledger, outcome, lengthsRight}
 use Rattle.rules.specs.Record.{wellFormed, acceptTests, accepted, readOf, decode, nothing}
 use Rattle.rules.specs.Sound.{sound}
 use Rattle.rules.specs.Refusals.{first, refusals, entryRefusals, envelopeRefusals, operationRefusals}
 use Rattle.rules.specs.Settle.{Done, done, settle}
 use Rattle.rules.specs.Submit.{finish, answerOf, submitRead, submit}
-use Rattle.rules.specs.declared.Submission.{Submission}
 use Rattle.rules.specs.declared.Read.{Read}
 use Rattle.rules.proofs.Bools.{all-at}
 
@@ -74,3 +72,7 @@ module _ (L : Ledger) (b : List ℕ) where
       settled e word K d =
           ap (λ (x : Done). outcome 0 (x .word) (x .after)) d
           ∙ ap (λ (k : ℕ). finish k (settle (r .submission) L) L) (sym e) ∙ sym submit-is
+
+-- a refusal as the code makes it
+pub as-refused : (L : Ledger) (b : List ℕ) (k n w : ℕ) → n ≡ k → w ≡ 0 → outcome k 0 L ≡ submit L b → outcome n w L ≡ submit L b
+as-refused L b k n w e f r = ap (λ (x : ℕ). outcome x w L) e ∙ ap (λ (x : ℕ). outcome k x L) f ∙ r

@@ -1,9 +1,15 @@
 // The ledger's public calls over the five lent tables: header, wallets, escrows, receipts, journal.
 ghost use mathlib.Core.Path.{_≡_};
 ghost use Rattle.rules.specs.Ledger.{ledger, outcome, lengthsRight, fresh};
+ghost use Rattle.rules.specs.Submit.{submit};
+use rules::Answer;
+use rules::limits::BAD_TABLE;
 use rules::limits::ESCROW_LEN;
+use rules::limits::FIRST_EDITION;
 use rules::limits::HEADER_LEN;
 use rules::limits::JOURNAL_LEN;
+use rules::limits::LEDGER_DAMAGED;
+use rules::limits::MALFORMED_RECORD;
 use rules::limits::MAX_ENTRIES;
 use rules::limits::MAX_ESCROWS;
 use rules::limits::MAX_RECEIPTS;
@@ -13,14 +19,8 @@ use rules::limits::WALLET_LEN;
 
 pub mod lookups;
 
-// The answer for a table whose slice has a wrong length.
-const BAD_TABLE: u64 = 1;
-
-// The first edition's number, the header's first word.
-const FIRST_EDITION: u64 = 1;
-
 // Whether all five slices have right lengths.
-pub fn lengths_right(
+fn lengths_right(
     header: &[u64],
     wallets: &[u64],
     escrows: &[u64],
@@ -52,4 +52,43 @@ pub fn fresh(
     }
     rows::put_row(header, HEADER_LEN, 0, &[FIRST_EDITION, 0, 0, 0, 0, 0, 0, 0]);
     0
+}
+
+// A refusal: its number, and the word 0.
+fn refused(number: u64) -> Answer
+    ensures { λ x. ⌜ (x .number ≡ number) × (x .word ≡ 0) ⌝ }
+{
+    Answer { number, word: 0 }
+}
+
+// A submission of any bytes over any five tables: the first refusal in the listed order, and nothing changed; or 0 with the answer's word,
+// and the ledger that document 01 lays down.
+pub fn submit(
+    header: &mut [u64],
+    wallets: &mut [u64],
+    escrows: &mut [u64],
+    receipts: &mut [u64],
+    journal: &mut [u64],
+    bytes: &[u8],
+) -> Answer
+    ensures { λ x. ⌜ outcome (x .number) (x .word) (ledger (now (header .exit)) (now (wallets .exit)) (now (escrows .exit)) (now (receipts .exit)) (now (journal .exit)))
+        ≡ submit (ledger (now (header .entry)) (now (wallets .entry)) (now (escrows .entry)) (now (receipts .entry)) (now (journal .entry))) (now (bytes .entry)) ⌝ }
+{
+    if !lengths_right(header, wallets, escrows, receipts, journal) {
+        return refused(BAD_TABLE);
+    }
+    if !sound::is_sound(header, wallets, escrows, receipts, journal) {
+        return refused(LEDGER_DAMAGED);
+    }
+    let read = record::read_record(bytes);
+    if read.number != 0 {
+        return refused(MALFORMED_RECORD);
+    }
+    let s = read.submission;
+    let number = refusals::refusal(header, wallets, escrows, receipts, journal, s);
+    if number != 0 {
+        return refused(number);
+    }
+    let word = settling::settle(header, wallets, escrows, receipts, journal, s);
+    Answer { number: 0, word }
 }

@@ -2,8 +2,8 @@
 -- definitions.
 use mathlib.Core.Path.{_≡_, refl, sym, ap, _∙_, subst}
 use mathlib.Core.Logic.{_≢_, _⊎_, inl, inr}
-use mathlib.Core.List.{List, [], _∷_}
-use mathlib.Core.Bool.{Bool, true, false, not, cond, _&&_}
+use mathlib.Core.List.{List, []}
+use mathlib.Core.Bool.{Bool, true, not, _&&_}
 use Prim.Native.Nat.{ℕ, _+_, _-_, _*_, _≤_, _<_}
 use native.Mathlib.Omega.{arith}
 use lib.ListN.{getD, length, take, drop, length-take, length-drop}
@@ -12,15 +12,14 @@ use lib.Dec.{eqb, ltb, leb}
 use borrow.Author.Tests.{ltb-true, leb-true}
 use Rattle.rules.specs.Limits.{RECORD-BYTES, WALLETS, ESCROWS, RECEIPTS, WALLET-LEN, RECEIPT-LEN, MAX-WALLETS, MAX-ESCROWS, MAX-RECEIPTS}
 use Rattle.rules.specs.Table.{rowsIn, tableRight}
-use Rattle.rules.specs.Ledger.{Ledger, Outcome, outcome, rowOf, written, lengthsRight, fresh, freshHeader, setHeader}
+use Rattle.rules.specs.Ledger.{Outcome, outcome, rowOf, written, lengthsRight, fresh, freshHeader, setHeader}
 use Rattle.rules.specs.Record.{wellFormed, encode, accepted, decode, readOf, nothing, Written, writeOf}
-use Rattle.rules.specs.Refusals.{first, refusals}
+use Rattle.rules.specs.Refusals.{refusals}
 use Rattle.rules.specs.Settle.{settle}
-use Rattle.rules.specs.Submit.{answerOf, submit}
+use Rattle.rules.specs.Submit.{answerOf}
 use Rattle.rules.specs.Lookup.{countRight, rowPlace, partAt, walletNumber}
-use Rattle.rules.specs.Promises.{Refused, none, IsFirst, On-the-list, Refusal-changes-nothing, Fresh-answers, Read-answers, Write-answers}
+use Rattle.rules.specs.Promises.{IsFirst, On-the-list, Refusal-changes-nothing, Fresh-answers, Read-answers, Write-answers}
 use Rattle.rules.specs.Promises.{Part-answers, Settles-exactly, First-refusal, Laid-down}
-use Rattle.rules.specs.declared.Submission.{Submission}
 use Rattle.rules.specs.declared.Read.{Read}
 use Rattle.rules.proofs.Bools.{and-fst, and-snd, cond-case}
 use Rattle.rules.proofs.Rows.{room}

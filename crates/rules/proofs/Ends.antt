@@ -1,6 +1,6 @@
 -- Three good tables stay good where an open escrow ends (its amount moves from its sender's locked to a balance, and three of its words are
 -- set) and where a receipt is closed or a release code stored. The laws name tables and counts only; Stays says the same of ledgers.
-use mathlib.Core.Path.{_≡_, refl, sym, ap, _∙_, subst, subst₂}
+use mathlib.Core.Path.{_≡_, sym, ap, _∙_, subst, subst₂}
 use mathlib.Core.Logic.{_≢_}
 use mathlib.Core.List.{List}
 use mathlib.Core.Bool.{Bool, true, false, cond, _&&_}
@@ -18,7 +18,7 @@ use Rattle.rules.proofs.Bools.{cond-case}
 use Rattle.rules.proofs.Rows.{rows-fit, length-put, word-col}
 use Rattle.rules.proofs.Accounts.{bal, total}
 use Rattle.rules.proofs.Moves.{mv, length-mv, row-mv, distinct-mv, mv-col, mv-bal, mv-total, shut, shut-col, shut-first, shut-second, length-shut, held-sum}
-use Rattle.rules.proofs.Good.{State, WRow, ERow, RRow, GoodTables, amount-held}
+use Rattle.rules.proofs.Good.{State, WRow, ERow, GoodTables, amount-held}
 
 -- ---- an open escrow ends
 

@@ -1,17 +1,17 @@
 -- A wallet that is needed is made if it is missing: what `ensureWallet` keeps. A new wallet has nothing in it and no escrow names it, so a
 -- good ledger stays good, and nobody's balance changes.
-use mathlib.Core.Path.{_≡_, refl, sym, ap, _∙_, subst, subst₃}
+use mathlib.Core.Path.{_≡_, refl, sym, _∙_, subst, subst₃}
 use mathlib.Core.Logic.{_≢_}
 use mathlib.Core.List.{List}
-use mathlib.Core.Bool.{Bool, true, false, cond}
+use mathlib.Core.Bool.{false}
 use Prim.Native.Nat.{ℕ, _+_, _*_, _/_, _≤_, _<_}
 use native.Mathlib.Decide.{ℕ-discrete}
 use native.Mathlib.Omega.{arith}
 use lib.ListN.{getD, set, length, length-set}
 use lib.Seq.{getD-set-same, getD-set-other}
-use lib.Dec.{ltb, lit<, lit≤}
+use lib.Dec.{lit<, lit≤}
 use borrow.Author.Tests.{ltb-true, ltb-false}
-use Rattle.rules.specs.Limits.{WALLET-LEN, GRANTED, WALLETS, ESCROWS, RECEIPTS, ID, BALANCE, LOCKED, FROZEN, FROM, TO}
+use Rattle.rules.specs.Limits.{WALLET-LEN, GRANTED, WALLETS, ESCROWS, RECEIPTS, ID, LOCKED, FROZEN, FROM, TO}
 use Rattle.rules.specs.Table.{word, putRow, rowsIn}
 use Rattle.rules.specs.Ledger.{Ledger, head, walletCount, escrowCount, receiptCount, rowOf, walletRow, hasWallet, putHead, newWallet}
 use Rattle.rules.specs.Settle.{blankWallet, ensureWallet}

@@ -3,23 +3,20 @@
 -- receipts keep these facts is shown in Stays.
 use mathlib.Core.Path.{_≡_, refl, sym, ap, ap₂, _∙_, subst}
 use mathlib.Core.Logic.{_≢_}
-use mathlib.Core.List.{List, []}
-use mathlib.Core.Bool.{Bool, true, false, not, cond, _&&_, _||_}
-use Prim.Native.Nat.{ℕ, _+_, _-_, _*_, _≤_, _<_}
+use mathlib.Core.List.{List}
+use mathlib.Core.Bool.{Bool, true, false, cond, _&&_}
+use Prim.Native.Nat.{ℕ, _+_, _-_, _≤_, _<_}
 use native.Mathlib.Decide.{decLt}
-use native.Mathlib.Nat.{le-trans}
 use native.Mathlib.Omega.{arith}
-use lib.ListN.{length}
 use lib.Dec.{eqb, ltb, leb}
 use borrow.Author.Tests.{eqb-true, eqb-false, eq-eqb, ne-eqb, ltb-true, leb-true, not-true}
 use Rattle.rules.specs.Limits.{WALLET-LEN, RECEIPT-LEN, LAST-TIME-MS, MAX-AMOUNT-MICRO, MAX-GRANTED-MICRO, GRANTED, ID, BALANCE, LOCKED, FROZEN, IS-OPEN}
 use Rattle.rules.specs.Limits.{FROM, TO, ESCROW-AMOUNT, ESCROW-DEADLINE, ESCROW-STATE, OPENED-AT, ESCROW-CLOSED-AT}
 use Rattle.rules.specs.Limits.{PROVIDER, REQUESTER, RECEIPT-LINK, ACCEPTANCE-DEADLINE, AUTO-ACCEPT, RECEIPT-STATE, CLAIMED-AT, RECEIPT-CLOSED-AT}
-use Rattle.rules.specs.Table.{word, rowsIn, all, every, sum}
+use Rattle.rules.specs.Table.{word, rowsIn, all, sum}
 use Rattle.rules.specs.Ledger.{Ledger, head, wallet, escrow, receipt, walletCount, escrowCount, receiptCount, rowOf, walletRow, walletOf, written}
-use Rattle.rules.specs.Sound.{heldIn, credits, headerTests, walletTests, escrowTests, receiptTests, linkRight, soundTests, sound}
+use Rattle.rules.specs.Sound.{heldIn, credits, headerTests, walletTests, escrowTests, receiptTests, soundTests, sound}
 use Rattle.rules.proofs.Bools.{and-fst, and-snd, or-other, all-at}
-use Rattle.rules.proofs.Rows.{rows-fit}
 use Rattle.rules.proofs.Counts.{le-sum, sum-zero, every-at}
 use Rattle.rules.proofs.Accounts.{bal, total, row-hit, bal-found, bal-missing, Distinct, distinct-says}
 use Rattle.rules.proofs.Moves.{held-at}

@@ -1,10 +1,10 @@
 -- What no operation touches: the journal and its count, the edition, every length, and that the system's flag is a flag. Shown for each small
 -- move, composed with `then`, and looked up in the list of operations, so that an operation put there brings its own line.
-use mathlib.Core.Path.{_≡_, refl, sym, ap, _∙_, subst}
+use mathlib.Core.Path.{_≡_, refl, sym, _∙_, subst}
 use mathlib.Core.Logic.{_≢_}
 use mathlib.Core.List.{List, [], _∷_}
-use mathlib.Core.Bool.{Bool, true, false, cond, _&&_}
-use Prim.Native.Nat.{ℕ, zero, suc, _+_, _-_, _≤_, _<_}
+use mathlib.Core.Bool.{_&&_}
+use Prim.Native.Nat.{ℕ, zero, suc, _-_, _≤_, _<_}
 use native.Mathlib.Decide.{ℕ-discrete, decLt}
 use native.Mathlib.Omega.{arith}
 use lib.ListN.{getD, set, length, length-set}
@@ -17,7 +17,7 @@ use Rattle.rules.specs.Ledger.{Ledger, head, receipt, entryCount, receip
 use Rattle.rules.specs.Ledger.{putHead, putWallet, putEscrow, putReceipt, newWallet, newEscrow, newReceipt}
 use Rattle.rules.specs.Record.{bit}
 use Rattle.rules.specs.Refusals.{releasable}
-use Rattle.rules.specs.Settle.{Done, Sweep, oneMore, sweepStart, sweptReceipts, swept, dueReceipt, dueEscrow, raise, lower, ensureWallet, endEscrow, closeReceipt, acceptRow}
+use Rattle.rules.specs.Settle.{Done, Sweep, sweepStart, sweptReceipts, swept, dueReceipt, dueEscrow, raise, lower, ensureWallet, endEscrow, closeReceipt, acceptRow}
 use Rattle.rules.specs.Settle.{closeDueReceipt, closeDueEscrow, sweepReceipt, sweepEscrow, operations, idle, operate}
 use Rattle.rules.specs.Settle.{grant, transfer, openEscrow, release, refund, claim, accept, dispute, sweep, freeze, caps}
 use Rattle.rules.specs.Promises.{Same-lengths}
@@ -172,11 +172,11 @@ keeps-accept now signer i L =
 pub keeps-due-receipt : (now i : ℕ) (L : Ledger) → Keeps L (closeDueReceipt now i L)
 unfolding closeDueReceipt
 keeps-due-receipt now i L =
-    cond-case (Keeps L) (eqb (receipt L i AUTO-ACCEPT) 1) _ _ (λ e. keeps-accept now 0 i L) (λ e. keeps-close LAPSED now 0 i L)
+    cond-case (Keeps L) (eqb (receipt L i AUTO-ACCEPT) 1) _ _ (λ e. keeps-accept _ _ _ L) (λ e. keeps-close _ _ _ _ L)
 
 pub keeps-due-escrow : (now i : ℕ) (L : Ledger) → Keeps L (closeDueEscrow now i L)
 unfolding closeDueEscrow
-keeps-due-escrow now i L = keeps-end EXPIRED now 0 i L
+keeps-due-escrow now i L = keeps-end _ _ _ _ L
 
 keeps-loop : (n : ℕ) (f : ℕ → Sweep → Sweep) → ((i : ℕ) (s : Sweep) → Keeps (s .tables) (f i s .tables)) → (s : Sweep)
     → Keeps (s .tables) (loop n f s .tables)
@@ -187,13 +187,13 @@ keeps-loop (suc n) f k s = then (keeps-loop n f k s) (k n (loop n f s))
 keeps-sweepReceipt : (now i : ℕ) (s : Sweep) → Keeps (s .tables) (sweepReceipt now i s .tables)
 unfolding sweepReceipt
 keeps-sweepReceipt now i s =
-    cond-case (λ (z : Sweep). Keeps (s .tables) (z .tables)) (ltb 0 (s .room) && dueReceipt (s .tables) now i) (oneMore s _) s
+    cond-case (λ (z : Sweep). Keeps (s .tables) (z .tables)) (ltb 0 (s .room) && dueReceipt (s .tables) now i) _ s
     (λ e. keeps-due-receipt now i (s .tables)) (λ e. same (s .tables))
 
 keeps-sweepEscrow : (now i : ℕ) (s : Sweep) → Keeps (s .tables) (sweepEscrow now i s .tables)
 unfolding sweepEscrow
 keeps-sweepEscrow now i s =
-    cond-case (λ (z : Sweep). Keeps (s .tables) (z .tables)) (ltb 0 (s .room) && dueEscrow (s .tables) now i) (oneMore s _) s
+    cond-case (λ (z : Sweep). Keeps (s .tables) (z .tables)) (ltb 0 (s .room) && dueEscrow (s .tables) now i) _ s
     (λ e. keeps-due-escrow now i (s .tables)) (λ e. same (s .tables))
 
 pub keeps-swept : (now limit : ℕ) (L : Ledger) → Keeps L (swept now limit L .tables)

@@ -1,24 +1,25 @@
 -- No call changes the length of a lent table or the edition: the small moves keep them (Keeps), and so does a new journal row. So right
 -- lengths stay right.
-use mathlib.Core.Path.{_≡_, refl, sym, ap, _∙_, subst}
+use mathlib.Core.Path.{_≡_, refl, sym, _∙_, subst}
 use mathlib.Core.List.{List, [], _∷_}
-use mathlib.Core.Bool.{Bool, true, cond}
-use Prim.Native.Nat.{ℕ, _+_, _*_, _/_, _%_, _≤_}
-use lib.ListN.{length, length-set}
+use mathlib.Core.Bool.{Bool}
+use Prim.Native.Nat.{ℕ, _+_, _-_, _/_, _%_, _≤_}
+use native.Mathlib.Omega.{arith}
+use lib.ListN.{length-set, length-replicate}
 use lib.Dec.{eqb, leb}
 use Rattle.rules.specs.Limits.{WALLET-LEN, RECEIPT-LEN, JOURNAL-LEN, MAX-WALLETS, MAX-ESCROWS, MAX-RECEIPTS, MAX-ENTRIES, ENTRIES, SWEEP}
 use Rattle.rules.specs.Table.{all}
-use Rattle.rules.specs.Ledger.{Edition, Ledger, entryCount, putHead, newEntry, lengthsRight}
+use Rattle.rules.specs.Ledger.{Edition, Ledger, Outcome, outcome, entryCount, setHeader, putHead, newEntry, lengthsRight, freshHeader, fresh}
 use Rattle.rules.specs.Record.{readOf}
 use Rattle.rules.specs.Settle.{enter, settle}
 use Rattle.rules.specs.Submit.{submit}
-use Rattle.rules.specs.History.{Call, submits, reads, writes, asks-status, finds-wallet, finds-escrow, finds-receipt, leaves, after}
-use Rattle.rules.specs.Promises.{Lent, Same-lengths, Lengths-stay}
+use Rattle.rules.specs.History.{Call, submits, reads, writes, asks-status, finds-wallet, finds-escrow, finds-receipt, leaves}
+use Rattle.rules.specs.Promises.{Lent, started, Same-lengths, Lengths-stay}
 use Rattle.rules.specs.declared.Submission.{Submission}
 use Rattle.rules.proofs.Bools.{cond-case}
 use Rattle.rules.proofs.Rows.{length-put-row}
-use Rattle.rules.proofs.Calls.{by-left}
-use Rattle.rules.proofs.Keeps.{Keeps, lengths-same, lengths-then, beforeEntry, keeps-before}
+use Rattle.rules.proofs.Calls.{by-left, header-length}
+use Rattle.rules.proofs.Keeps.{lengths-same, lengths-then, beforeEntry, keeps-before}
 
 lengths-entry : (vs : List ℕ) (L : Ledger) → Same-lengths (newEntry vs L) L
 unfolding newEntry putHead
@@ -71,3 +72,20 @@ lent-stays p l = record {
   header = subst (λ (e : Edition). 8 ≤ e .headerLen) (sym (p .edition)) (l .header);
   escrow = subst (λ (e : Edition). 8 ≤ e .escrowLen) (sym (p .edition)) (l .escrow);
 }
+
+-- starting afresh changes no length
+lengths-started : (L : Ledger) → Lent L → Same-lengths (started L) L
+unfolding fresh
+lengths-started L l =
+    cond-case (λ (o : Outcome). Same-lengths (o .left) L) (lengthsRight L) (outcome 0 0 (setHeader (freshHeader (L .edition)) L)) (outcome 1 0 L)
+    (λ e. record {
+      edition = refl;
+      header = omega (arith, length-replicate {A = ℕ} (L .edition .headerLen - 1) 0, header-length L (l .lengths), l .header);
+      wallets = refl;
+      escrows = refl;
+      receipts = refl;
+      journal = refl;
+    }) (λ e. lengths-same L)
+
+pub lent-started : (L : Ledger) → Lent L → Lent (started L)
+lent-started L l = lent-stays (lengths-started L l) l

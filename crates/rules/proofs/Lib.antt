@@ -4,12 +4,19 @@ pub mod Rows
 pub mod Counts
 pub mod Seek
 pub mod Below
+pub mod Le
+pub mod Codec
+-- credits, a good ledger, and the simulation of the books
 pub mod Accounts
 pub mod Moves
 pub mod Good
 pub mod Ends
 pub mod Stays
 pub mod Ensured
+pub mod Agree
+pub mod InStep
+pub mod Changes
+pub mod Operations
 pub mod Cases
 -- the refusals, the replay guard, the sweep, and that sound stays
 pub mod Refused
@@ -18,6 +25,12 @@ pub mod Demand12
 pub mod Keeps
 pub mod Lengths
 pub mod Replay
-pub mod Runs
 pub mod Turns
 pub mod SweepPlan
+pub mod Passed
+pub mod GoodRows
+pub mod SoundStays
+pub mod SoundParts
+pub mod SoundAlways
+pub mod Books
+pub mod Runs

@@ -15,7 +15,7 @@ use Rattle.rules.specs.Submit.{answerOf}
 use Rattle.rules.specs.Promises.{none, IsFirst}
 use Rattle.rules.specs.declared.Submission.{Submission}
 use Rattle.rules.specs.declared.Read.{Read}
-use Rattle.rules.proofs.Bools.{and-fst, and-snd, not-true-false, cond-case}
+use Rattle.rules.proofs.Bools.{and-intro, and-fst, and-snd, or-fst, or-snd, not-true-false, cond-case}
 
 -- whether the row of number n holds
 abbrev pub holdsOf : List Refusal → ℕ → Bool
@@ -114,6 +114,19 @@ first-most high [] h = omega arith
 first-most high (r ∷ rs) h =
     cond-case (λ (n : ℕ). n ≤ high) (r .holds) (r .number) (first rs) (λ _. leb-true (r .number) high (and-fst (leb (r .number) high) (atMost high rs) h))
     (λ _. first-most high rs (and-snd (leb (r .number) high) (atMost high rs) h))
+
+-- a row of the answer's number holds
+abbrev pub anyOf : List Refusal → ℕ → Bool
+anyOf [] n = false
+anyOf (r ∷ rs) n = eqb (r .number) n && r .holds || anyOf rs n
+
+pub first-holds : (rs : List Refusal) (n : ℕ) → n ≢ 0 → first rs ≡ n → anyOf rs n ≡ true
+first-holds [] n ne e = absurd (ne (sym e))
+first-holds (r ∷ rs) n ne e = go (r .holds) refl (first-holds rs n ne)
+  where
+    go : (b : Bool) → r .holds ≡ b → (first rs ≡ n → anyOf rs n ≡ true) → anyOf (r ∷ rs) n ≡ true
+    go true x ih = or-fst (eqb (r .number) n && r .holds) (anyOf rs n) (and-intro (eqb (r .number) n) (r .holds) (eq-eqb (r .number) n (sym (first-here r rs x) ∙ e)) x)
+    go false x ih = or-snd (eqb (r .number) n && r .holds) (anyOf rs n) (ih (sym (first-past r rs x) ∙ e))
 
 -- ---- rows whose numbers rise: the answer is the lowest number whose row holds
 

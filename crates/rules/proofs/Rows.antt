@@ -1,13 +1,13 @@
 -- What the row tables share, once for every row length: a word set, another row, another column, a new row, room in the table.
 use mathlib.Core.Path.{_≡_, refl, sym, ap, _∙_, subst}
 use mathlib.Core.Logic.{_≢_}
-use mathlib.Core.List.{List, [], _∷_}
+use mathlib.Core.List.{List, [], _∷_, _++_, append-nil}
 use Prim.Native.Nat.{ℕ, zero, suc, _+_, _-_, _*_, _/_, _%_, _≤_, _<_}
-use native.Mathlib.Nat.{not-suc-le-zero, mul-le-mul-right, div-mul-le-self, le-trans, suc-mul}
+use native.Mathlib.Nat.{not-suc-le-zero, mul-le-mul-right, div-mul-le-self, le-trans, suc-mul, add-zero}
 use native.Mathlib.Omega.{arith}
 use native.Mathlib.Decide.{ℕ-discrete, decLt}
-use lib.ListN.{getD, set, length, length-set, replicate}
-use lib.Seq.{sets, length-sets, getD-set-same, getD-set-other, set-out}
+use lib.ListN.{getD, set, length, length-set, replicate, drop-of-length-le}
+use lib.Seq.{sets, sets-eq, length-sets, getD-set-same, getD-set-other, set-out}
 use lib.Arith.{digits-div}
 use Rattle.rules.specs.Table.{word, put, putRow, rowsIn}
 
@@ -73,6 +73,19 @@ getD-sets-in (v ∷ vs) l i (suc c) h hc =
     let e : i + suc c ≡ suc i + c = omega arith in
     ap (λ (x : ℕ). getD (sets (set l i v) (suc i) vs) x 0) e
     ∙ getD-sets-in vs (set l i v) (suc i) c (omega (arith, length-set l i v)) (omega arith)
+
+-- two runs, one after the other; and a run as long as the list is the list
+pub sets-append : (us vs l : List ℕ) (i : ℕ) → sets l i (us ++ vs) ≡ sets (sets l i us) (i + length us) vs
+sets-append [] vs l i = ap (λ (k : ℕ). sets l k vs) (sym (add-zero i))
+sets-append (u ∷ us) vs l i =
+    let e : suc i + length us ≡ i + suc (length us) = omega arith in
+    sets-append us vs (set l i u) (suc i) ∙ ap (λ (k : ℕ). sets (sets (set l i u) (suc i) us) k vs) e
+
+pub sets-whole : (l vs : List ℕ) → length l ≡ length vs → sets l 0 vs ≡ vs
+sets-whole l vs e =
+    let fits : 0 + length vs ≤ length l = omega arith in
+    let ends : length l ≤ 0 + length vs = omega arith in
+    sets-eq vs l 0 fits ∙ ap (λ (x : List ℕ). vs ++ x) (drop-of-length-le l ends) ∙ append-nil vs
 
 -- a new row: its words, the words of the rows before it, the length
 pub word-new : (t : List ℕ) (len i c : ℕ) (vs : List ℕ) → i * len + length vs ≤ length t → c < length vs → word (putRow t len i vs) len i c ≡ getD vs c 0

@@ -1,15 +1,15 @@
 -- From the code to the theorems: whatever a run of calls showed, each of them meeting the contract of `submit`, is what the definitions say of
--- the same bytes. So the replay guard holds of the run.
-use mathlib.Core.Path.{_≡_, refl, sym, ap, ap₂, _∙_, subst}
-use mathlib.Core.Logic.{_≢_}
+-- the same bytes. So the books, soundness and the replay guard hold of the run.
+use mathlib.Core.Path.{_≡_, refl, sym, ap, _∙_, subst, subst₂}
 use mathlib.Core.List.{List, [], _∷_, _++_}
-use Prim.Native.Nat.{ℕ}
 use Rattle.rules.specs.Ledger.{Ledger, Outcome, outcome}
-use Rattle.rules.specs.Record.{readOf}
+use Rattle.rules.specs.Sound.{sound}
 use Rattle.rules.specs.Submit.{submit}
 use Rattle.rules.specs.History.{Call, submits, after, Said, saidOf, said}
-use Rattle.rules.specs.Promises.{Refused, Result, Meets, lastOf, saidBy, Runs-refuse-retries}
+use Rattle.rules.specs.Promises.{started, Refused, Adds-up, Result, Meets, lastOf, saidBy, Runs-add-up, Runs-refuse-retries}
 use Rattle.rules.proofs.Replay.{replay-guard}
+use Rattle.rules.proofs.Books.{the-books}
+use Rattle.rules.proofs.SoundAlways.{sound-always}
 
 -- the submissions of a run
 abbrev pub submissions : List Result → List Call
@@ -25,6 +25,13 @@ meets-said L [] m = refl
 meets-said L (r ∷ rs) m =
     ap (λ (es : List Said). saidOf (r .bytes) (outcome (r .number) (r .word) (r .left)) ∷ es) (meets-said (r .left) rs (m .1))
     ∙ ap (λ (o : Outcome). saidOf (r .bytes) o ∷ said (o .left) (submissions rs)) (m .0)
+
+pub runs-add-up : Runs-add-up
+runs-add-up L lent rs m =
+    let last : lastOf (started L) rs ≡ after (started L) (submissions rs) = meets-after (started L) rs m in (
+      subst₂ Adds-up (sym last) (sym (meets-said (started L) rs m)) (the-books L lent (submissions rs)),
+      ap sound last ∙ sound-always L lent (submissions rs),
+    )
 
 -- a run goes on from where it was
 meets-fst : (L : Ledger) (xs ys : List Result) → Meets L (xs ++ ys) → Meets L xs

@@ -3,19 +3,19 @@
 use mathlib.Core.Path.{_≡_, refl, sym, _∙_, subst}
 use mathlib.Core.Logic.{_≢_}
 use mathlib.Core.List.{List}
-use mathlib.Core.Bool.{Bool, true, false, cond, _&&_}
-use Prim.Native.Nat.{ℕ, zero, suc, _+_, _-_, _≤_, _<_}
+use mathlib.Core.Bool.{true, false, _&&_}
+use Prim.Native.Nat.{ℕ, zero, suc, _-_, _≤_, _<_}
 use native.Mathlib.Nat.{le-refl}
 use native.Mathlib.Omega.{arith}
 use lib.ListN.{getD}
-use lib.Dec.{eqb, ltb, leb, lit≤}
+use lib.Dec.{eqb, ltb, lit≤}
 use borrow.Author.Tests.{eqb-false}
-use Rattle.rules.specs.Limits.{LAST-TIME-MS, GRANTED, ESCROWS, RECEIPTS, ESCROW-DEADLINE, ESCROW-STATE, IS-OPEN, RELEASED, EXPIRED}
-use Rattle.rules.specs.Limits.{RECEIPT-LINK, AUTO-ACCEPT, RELEASE-CODE, RELEASE-IMPOSSIBLE, ACCEPTED, LAPSED}
+use Rattle.rules.specs.Limits.{LAST-TIME-MS, GRANTED, ESCROWS, RECEIPTS, ESCROW-STATE, IS-OPEN, RELEASED}
+use Rattle.rules.specs.Limits.{RECEIPT-LINK, AUTO-ACCEPT, RELEASE-CODE, RELEASE-IMPOSSIBLE, ACCEPTED}
 use Rattle.rules.specs.Table.{loop}
 use Rattle.rules.specs.Ledger.{Ledger, head, escrow, receipt, walletCount, escrowCount, receiptCount, putWallet, putEscrow, putReceipt}
 use Rattle.rules.specs.Refusals.{releasable}
-use Rattle.rules.specs.Settle.{raise, lower, endEscrow, closeReceipt, Done, done, acceptRow, Sweep, oneMore, sweepStart, dueReceipt, dueEscrow}
+use Rattle.rules.specs.Settle.{raise, lower, endEscrow, closeReceipt, Done, done, acceptRow, Sweep, sweepStart, dueReceipt, dueEscrow}
 use Rattle.rules.specs.Settle.{closeDueReceipt, closeDueEscrow, sweepReceipt, sweepEscrow, sweptReceipts, swept}
 use Rattle.rules.proofs.Bools.{and-fst, and-snd, cond-case}
 use Rattle.rules.proofs.Good.{State, Good}
@@ -71,6 +71,12 @@ kept-code L g i x = record {
 pub link-row : (L : Ledger) → Good L → (i : ℕ) → i < receiptCount L → receipt L i RECEIPT-LINK ≢ 0 → receipt L i RECEIPT-LINK - 1 < escrowCount L
 link-row L g i i< some-link = omega (arith, g .links i i<)
 
+-- closing a receipt leaves the escrows
+still-open : (st now signer i : ℕ) (L : Ledger) (j : ℕ) → eqb (escrow L j ESCROW-STATE) IS-OPEN ≡ true
+    → eqb (escrow (closeReceipt st now signer i L) j ESCROW-STATE) IS-OPEN ≡ true
+unfolding closeReceipt putReceipt
+still-open st now signer i L j h = h
+
 pub kept-accept : (L : Ledger) → Good L → (i : ℕ) → i < receiptCount L → (now signer : ℕ) → now ≤ LAST-TIME-MS → Kept L (acceptRow now signer i L .after)
 unfolding acceptRow
 kept-accept L g i i< now signer now-right =
@@ -83,8 +89,7 @@ kept-accept L g i i< now signer now-right =
     (λ h.
     kept-then a
     (kept-end closed (a .good) (k - 1) (row-kept ESCROWS a (link-row L g i i< (eqb-false k 0 e)))
-    (unfold closeReceipt putReceipt in and-fst (eqb (escrow L (k - 1) ESCROW-STATE) IS-OPEN) (leb now (escrow L (k - 1) ESCROW-DEADLINE)) h)
-    RELEASED now signer refl (lit≤ tt, lit≤ tt) now-right))
+    (still-open ACCEPTED now signer i L (k - 1) (and-fst (eqb (escrow L (k - 1) ESCROW-STATE) IS-OPEN) _ h)) _ _ _ refl (lit≤ tt, lit≤ tt) now-right))
     (λ h. kept-then a (kept-code closed (a .good) i RELEASE-IMPOSSIBLE)))
 
 -- ---- a sweep
@@ -99,13 +104,13 @@ module _ (L : Ledger) (now : ℕ) (now-right : now ≤ LAST-TIME-MS) where
   pub kept-due-receipt : (K : Ledger) → Good K → (i : ℕ) → i < receiptCount K → Kept K (closeDueReceipt now i K)
   unfolding closeDueReceipt
   kept-due-receipt K g i i< =
-      cond-case (Kept K) (eqb (receipt K i AUTO-ACCEPT) 1) _ _ (λ h. kept-accept K g i i< now 0 now-right)
-      (λ h. kept-close K g i LAPSED now 0 (lit≤ tt, lit≤ tt) now-right)
+      cond-case (Kept K) (eqb (receipt K i AUTO-ACCEPT) 1) _ _ (λ h. kept-accept K g i i< _ _ (omega arith))
+      (λ h. kept-close K g i _ _ _ (lit≤ tt, lit≤ tt) (omega arith))
 
   pub kept-due-escrow : (K : Ledger) → Good K → (i : ℕ) → i < escrowCount K → dueEscrow K now i ≡ true → Kept K (closeDueEscrow now i K)
   unfolding closeDueEscrow
   kept-due-escrow K g i i< h =
-      kept-end K g i i< (and-fst (eqb (escrow K i ESCROW-STATE) IS-OPEN) _ h) EXPIRED now 0 refl (lit≤ tt, lit≤ tt) now-right
+      kept-end K g i i< (and-fst (eqb (escrow K i ESCROW-STATE) IS-OPEN) _ h) _ _ _ refl (lit≤ tt, lit≤ tt) (omega arith)
 
   pub receipt-turn : (i : ℕ) → i < receiptCount L → (s : Sweep) → Kept L (s .tables) → Kept L (sweepReceipt now i s .tables)
   unfolding sweepReceipt

@@ -4,26 +4,30 @@
 use mathlib.Core.Path.{_≡_, refl, sym, ap, ap₂, _∙_, subst}
 use mathlib.Core.Logic.{_≢_}
 use mathlib.Core.List.{List, [], _∷_}
-use mathlib.Core.Bool.{Bool, true, false, cond, _&&_}
+use mathlib.Core.Bool.{true, false, _&&_}
 use Prim.Native.Nat.{ℕ, _+_, _-_, _≤_, _<_, min}
 use native.Mathlib.Decide.{ℕ-discrete}
 use native.Mathlib.Omega.{arith}
-use lib.ListN.{length, take, length-take}
+use lib.ListN.{getD, length, take, length-take}
 use lib.Dec.{eqb, ltb, leb, lit<}
 use borrow.Author.Tests.{le-ltb, leb-true}
 use Rattle.rules.specs.Limits.{RECEIPT-LEN, ESCROW-DEADLINE, ESCROW-STATE, ESCROW-CLOSED-AT, ESCROW-CLOSED-BY, IS-OPEN, RELEASED, EXPIRED}
 use Rattle.rules.specs.Limits.{RECEIPT-LINK, ACCEPTANCE-DEADLINE, AUTO-ACCEPT, RECEIPT-STATE, RECEIPT-CLOSED-AT, RECEIPT-CLOSED-BY, RELEASE-CODE}
-use Rattle.rules.specs.Limits.{PENDING, ACCEPTED, LAPSED, RELEASE-IMPOSSIBLE}
-use Rattle.rules.specs.Table.{word, loop}
-use Rattle.rules.specs.Ledger.{Edition, Ledger, escrow, receipt, receiptCount, escrowCount, putWallet, putEscrow, putReceipt}
+use Rattle.rules.specs.Limits.{PENDING, ACCEPTED, LAPSED, RELEASE-IMPOSSIBLE, SWEEP}
+use Rattle.rules.specs.Table.{loop}
+use Rattle.rules.specs.Ledger.{Edition, Ledger, Outcome, escrow, receipt, receiptCount, escrowCount, putWallet, putEscrow, putReceipt}
+use Rattle.rules.specs.Record.{readOf}
 use Rattle.rules.specs.Refusals.{releasable}
 use Rattle.rules.specs.Settle.{Done, done, Sweep, sweptReceipts, swept, dueReceipt, dueEscrow, raise, lower, endEscrow, closeReceipt, acceptRow}
-use Rattle.rules.specs.Settle.{closeDueReceipt, closeDueEscrow, sweepReceipt, sweepEscrow}
-use Rattle.rules.specs.Due.{those, dueReceipts, dueEscrows, closeAll}
-use Rattle.rules.specs.Promises.{Sweep-counts, Sweep-closes}
+use Rattle.rules.specs.Settle.{closeDueReceipt, closeDueEscrow, sweepReceipt, sweepEscrow, sweep, operations, idle, operate, settle}
+use Rattle.rules.specs.Submit.{submit}
+use Rattle.rules.specs.Due.{dueReceipts, dueEscrows, due, closeAll}
+use Rattle.rules.specs.Promises.{Sweep-counts, Sweep-answers, Sweep-closes}
+use Rattle.rules.specs.declared.Submission.{Submission}
 use Rattle.rules.proofs.Bools.{and-snd, and-none-snd, cond-case}
 use Rattle.rules.proofs.Rows.{word-row}
 use Rattle.rules.proofs.Moves.{shut-col, shut-row}
+use Rattle.rules.proofs.Demand12.{laid-down}
 use Rattle.rules.proofs.Keeps.{keeps-due-receipt, keeps-due-escrow}
 use Rattle.rules.proofs.Turns.{those-ext, close-keeps, closedRows, turns}
 
@@ -170,3 +174,12 @@ sweep-counts now limit L w =
 pub sweep-closes : Sweep-closes
 unfolding R M
 sweep-closes now limit L w = ap (λ (s : Sweep). s .tables) (after-escrows now limit L w)
+
+-- so the word of a settled sweep counts the rows that it closes
+pub sweep-answers : Sweep-answers
+unfolding settle operate sweep
+sweep-answers L b w zero-b is-sweep =
+    let s : Submission = readOf b .submission in
+    ap (λ (o : Outcome). o .word) (laid-down L b zero-b)
+    ∙ ap (λ (o : ℕ). getD operations (o - 1) idle s L .word) is-sweep
+    ∙ sweep-counts (s .now) (s .amount) L w

@@ -92,6 +92,11 @@ Laid-down =
 abbrev pub Sweep-counts : Type 0
 Sweep-counts = (now limit : ℕ) (L : Ledger) → 8 ≤ L .edition .escrowLen → swept now limit L .closed ≡ min limit (due L now)
 
+abbrev pub Sweep-answers : Type 0
+Sweep-answers =
+    (L : Ledger) (b : List ℕ) → 8 ≤ L .edition .escrowLen → submit L b .number ≡ 0 → readOf b .submission .op ≡ SWEEP →
+    submit L b .word ≡ min (readOf b .submission .amount) (due L (readOf b .submission .now))
+
 abbrev pub Sweep-closes : Type 0
 Sweep-closes = (now limit : ℕ) (L : Ledger) → 8 ≤ L .edition .escrowLen → swept now limit L .tables ≡ firstDueClosed now limit L
 

@@ -110,11 +110,13 @@ grant s L = done 0 (putHead GRANTED (head L GRANTED + s .amount) (raise BALANCE 
 unfoldable pub transfer : Submission → Ledger → Done
 transfer s L = done 0 (raise BALANCE (s .target) (s .amount) (lower BALANCE (s .signer) (s .amount) (ensureWallet (s .target) L)))
 
+abbrev pub escrowOf : Submission → List ℕ
+escrowOf s = s .signer ∷ s .target ∷ s .amount ∷ s .until ∷ IS-OPEN ∷ s .now ∷ 0 ∷ 0 ∷ []
+
 unfoldable pub openEscrow : Submission → Ledger → Done
 openEscrow s L =
     done (escrowCount L + 1)
-    (newEscrow (s .signer ∷ s .target ∷ s .amount ∷ s .until ∷ IS-OPEN ∷ s .now ∷ 0 ∷ 0 ∷ [])
-    (raise LOCKED (s .signer) (s .amount) (lower BALANCE (s .signer) (s .amount) (ensureWallet (s .target) L))))
+    (newEscrow (escrowOf s) (raise LOCKED (s .signer) (s .amount) (lower BALANCE (s .signer) (s .amount) (ensureWallet (s .target) L))))
 
 unfoldable pub release : Submission → Ledger → Done
 release s L = done 0 (endEscrow RELEASED (s .now) (s .signer) (s .target - 1) L)
@@ -122,12 +124,13 @@ release s L = done 0 (endEscrow RELEASED (s .now) (s .signer) (s .target - 1) L)
 unfoldable pub refund : Submission → Ledger → Done
 refund s L = done 0 (endEscrow REFUNDED (s .now) (s .signer) (s .target - 1) L)
 
+abbrev pub receiptOf : Submission → List ℕ
+receiptOf s =
+    s .signer ∷ s .target ∷ s .link ∷ s .until ∷ bit AUTO-OR-FREEZE (s .flags) ∷ PENDING ∷ s .now ∷ 0 ∷ 0 ∷ 0
+    ∷ s .hash0 ∷ s .hash1 ∷ s .hash2 ∷ s .hash3 ∷ []
+
 unfoldable pub claim : Submission → Ledger → Done
-claim s L =
-    done (receiptCount L + 1)
-    (newReceipt
-    (s .signer ∷ s .target ∷ s .link ∷ s .until ∷ bit AUTO-OR-FREEZE (s .flags) ∷ PENDING ∷ s .now ∷ 0 ∷ 0 ∷ 0
-    ∷ s .hash0 ∷ s .hash1 ∷ s .hash2 ∷ s .hash3 ∷ []) L)
+claim s L = done (receiptCount L + 1) (newReceipt (receiptOf s) L)
 
 unfoldable pub accept : Submission → Ledger → Done
 accept s L = acceptRow (s .now) (s .signer) (s .target - 1) L

@@ -191,3 +191,13 @@ pub const LAPSED: u64 = 4;
 
 // What a receipt stores where its escrow could not be released.
 pub const RELEASE_IMPOSSIBLE: u64 = 29;
+
+// The first edition's number, the header's first word.
+pub const FIRST_EDITION: u64 = 1;
+
+// The answers that are given before a record's own checks begin.
+pub const BAD_TABLE: u64 = 1;
+
+pub const LEDGER_DAMAGED: u64 = 2;
+
+pub const MALFORMED_RECORD: u64 = 3;

@@ -1,5 +1,5 @@
 -- `rows::find_row` meets its contract: no row before i has the id.
-use Prim.Native.Nat.{ℕ, _+_, _-_, _≤_, _<_}
+use Prim.Native.Nat.{_-_, _≤_}
 use native.Mathlib.Omega.{arith}
 use Rattle.rules.proofs.Rows.{in-table}
 use Rattle.rows.proofs.Laws.{Passed, pass-none, pass, found, none}

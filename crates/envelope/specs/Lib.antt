@@ -1,0 +1,2 @@
+-- The envelope: what the search of the journal finds.
+pub mod Seen

@@ -1,0 +1,52 @@
+-- An accept or a dispute: the rows that the table of refusals leaves for it, and that the picks of its group are the first of them. The
+-- hypotheses of the law are what the calls ensure, in their order.
+use mathlib.Core.Path.{_≡_, sym, _∙_}
+use mathlib.Core.List.{List, [], _∷_}
+use mathlib.Core.Logic.{_⊎_, ⊎-elim}
+use mathlib.Core.Bool.{not, cond, _&&_}
+use Prim.Native.Nat.{ℕ, _-_}
+use lib.ListN.{getD}
+use lib.Dec.{eqb}
+use Rattle.rules.specs.Limits.{RECEIPT-LEN, JOURNAL-LEN, ACCEPT, DISPUTE, REASON-GIVEN, RECEIPTS, ENTRIES, REQUESTER, RECEIPT-STATE, PENDING}
+use Rattle.rules.specs.Table.{word}
+use Rattle.rules.specs.Ledger.{Ledger, ledger, receipt, receiptCount, entryCount, written, full}
+use Rattle.rules.specs.Refusals.{Refusal, row, first, clear, ofReceipt, operationRefusals}
+use Rattle.rules.specs.declared.Submission.{Submission}
+use Rattle.holds.specs.Named.{rowNamed}
+use Rattle.holds.proofs.Numbers.{named}
+
+unfoldable pub ofReply : Ledger → Submission → List Refusal
+ofReply L s =
+    row 32 (not (written (receiptCount L) (s .target)))
+    ∷ row 33 (ofReceipt L (s .target) (not (eqb (s .signer) (receipt L (s .target - 1) REQUESTER))))
+    ∷ row 34 (ofReceipt L (s .target) (not (eqb (receipt L (s .target - 1) RECEIPT-STATE) PENDING)))
+    ∷ row 35 (eqb (s .op) DISPUTE && clear s REASON-GIVEN)
+    ∷ row 40 (full JOURNAL-LEN (L .journal) (entryCount L))
+    ∷ []
+
+pub accept-rows : (L : Ledger) (s : Submission) → s .op ≡ ACCEPT → first (operationRefusals L s) ≡ first (ofReply L s)
+unfolding operationRefusals ofReply
+accept-rows L s o = simp o
+
+pub dispute-rows : (L : Ledger) (s : Submission) → s .op ≡ DISPUTE → first (operationRefusals L s) ≡ first (ofReply L s)
+unfolding operationRefusals ofReply
+dispute-rows L s o = simp o
+
+pub reply-by :
+    (h w e r j : List ℕ) (s : Submission) (i requester state r32 r33 r34 r35 r40 : ℕ)
+    → (s .op ≡ ACCEPT) ⊎ (s .op ≡ DISPUTE)
+    → i ≡ rowNamed (getD h RECEIPTS 0) (s .target)
+    → requester ≡ word r RECEIPT-LEN i REQUESTER
+    → state ≡ word r RECEIPT-LEN i RECEIPT-STATE
+    → r40 ≡ cond (full JOURNAL-LEN j (getD h ENTRIES 0)) 40 0
+    → r35 ≡ cond (eqb (s .op) DISPUTE && clear s REASON-GIVEN) 35 r40
+    → r34 ≡ cond (written (getD h RECEIPTS 0) (s .target) && not (eqb state PENDING)) 34 r35
+    → r33 ≡ cond (written (getD h RECEIPTS 0) (s .target) && not (eqb (s .signer) requester)) 33 r34
+    → r32 ≡ cond (not (written (getD h RECEIPTS 0) (s .target))) 32 r33
+    → r32 ≡ first (operationRefusals (ledger h w e r j) s)
+unfolding ofReply
+reply-by h w e r j s i requester state r32 r33 r34 r35 r40 o a b d c40 c35 c34 c33 c32 =
+    let x = named (getD h RECEIPTS 0) (s .target) i (λ i. not (eqb (s .signer) (word r RECEIPT-LEN i REQUESTER))) a in
+    let y = named (getD h RECEIPTS 0) (s .target) i (λ i. not (eqb (word r RECEIPT-LEN i RECEIPT-STATE) PENDING)) a in
+    let picks : r32 ≡ first (ofReply (ledger h w e r j) s) = cc in
+    picks ∙ sym (⊎-elim (accept-rows _ s) (dispute-rows _ s) o)

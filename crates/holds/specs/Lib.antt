@@ -1,0 +1,2 @@
+-- The row that a number names.
+pub mod Named

@@ -1,0 +1,135 @@
+// Checks 15 to 40 of the operations on escrows and receipts: release and refund, claim, accept and dispute.
+ghost use mathlib.Core.Path.{_≡_};
+ghost use mathlib.Core.List.{List};
+ghost use mathlib.Core.Logic.{_⊎_};
+ghost use Prim.Native.Nat.{ℕ, _*_, _≤_, _<_};
+ghost use lib.ListN.{getD, length};
+ghost use Rattle.rules.specs.Limits.{WALLET-LEN, MAX-ESCROWS, MAX-RECEIPTS, LAST-TIME-MS, RELEASE, REFUND, CLAIM, ACCEPT, DISPUTE};
+ghost use Rattle.rules.specs.Limits.{WALLETS, ESCROWS, RECEIPTS, ENTRIES};
+ghost use Rattle.rules.specs.Ledger.{ledger};
+ghost use Rattle.rules.specs.Refusals.{first, operationRefusals};
+ghost use Rattle.holds.specs.Named.{rowNamed};
+use rules::Submission;
+use rules::limits::ADMIN;
+use rules::limits::DISPUTE;
+use rules::limits::ENTRIES;
+use rules::limits::ESCROW_DEADLINE;
+use rules::limits::ESCROW_LEN;
+use rules::limits::ESCROW_STATE;
+use rules::limits::ESCROWS;
+use rules::limits::FROM;
+use rules::limits::IS_OPEN;
+use rules::limits::JOURNAL_LEN;
+use rules::limits::MAX_ACCEPTANCE_MS;
+use rules::limits::MIN_ACCEPTANCE_MS;
+use rules::limits::PENDING;
+use rules::limits::REASON_GIVEN;
+use rules::limits::RECEIPT_LEN;
+use rules::limits::RECEIPT_STATE;
+use rules::limits::RECEIPTS;
+use rules::limits::REQUESTER;
+use rules::limits::TO;
+use rules::limits::WALLETS;
+
+// The row that a number names, of a count of written rows. Where it names none, row 0: what is read there counts for nothing.
+pub fn row_of(count: u64, number: u64) -> usize
+    ensures { λ r. ⌜ r ≡ rowNamed count number ⌝ }
+{
+    if (0 < number) & (number <= count) {
+        number as usize - 1
+    } else {
+        0
+    }
+}
+
+// A release or a refund: checks 27 to 29, 40.
+pub fn closing_refusal(header: &[u64], escrows: &[u64], journal: &[u64], s: Submission) -> u64
+    requires { ⌜ (ENTRIES < length (now header)) × (getD (now header) ESCROWS 0 ≤ MAX-ESCROWS) × ((s .op ≡ RELEASE) ⊎ (s .op ≡ REFUND)) ⌝ }
+    ensures { λ x. ⌜ ((w r : List ℕ) → x ≡ first (operationRefusals (ledger (now (header .entry)) w (now (escrows .entry)) r (now (journal .entry))) s)) ⌝ }
+{
+    let count = header[ESCROWS];
+    let entries = header[ENTRIES] as usize;
+    let row = row_of(count, s.target);
+    let from = rows::get(escrows, ESCROW_LEN, row, FROM);
+    let deadline = rows::get(escrows, ESCROW_LEN, row, ESCROW_DEADLINE);
+    let state = rows::get(escrows, ESCROW_LEN, row, ESCROW_STATE);
+    let there = (0 < s.target) & (s.target <= count);
+    let signer_not_authorized = there & ((s.signer != from) & (s.flags / ADMIN % 2 == 0));
+    let not_open = there & !((state == IS_OPEN) & (s.now <= deadline));
+    let journal_table_full = journal.len() / JOURNAL_LEN <= entries;
+    let r40 = rows::choose(journal_table_full, 40, 0);
+    let r29 = rows::choose(not_open, 29, r40);
+    let r28 = rows::choose(signer_not_authorized, 28, r29);
+    rows::choose(!there, 27, r28)
+}
+
+// A claim: checks 15, 22 to 27, 29 to 31, 39, 40.
+pub fn claim_refusal(
+    header: &[u64],
+    wallets: &[u64],
+    escrows: &[u64],
+    receipts: &[u64],
+    journal: &[u64],
+    s: Submission,
+) -> u64
+    requires { ⌜ (ENTRIES < length (now header)) × (getD (now header) ESCROWS 0 ≤ MAX-ESCROWS) × (getD (now header) WALLETS 0 * WALLET-LEN ≤ length (now wallets)) × (s .issued ≤ LAST-TIME-MS) × (s .op ≡ CLAIM) ⌝ }
+    ensures { λ x. ⌜ x ≡ first (operationRefusals (ledger (now (header .entry)) (now (wallets .entry)) (now (escrows .entry)) (now (receipts .entry)) (now (journal .entry))) s) ⌝ }
+{
+    let count = header[WALLETS] as usize;
+    let held = header[ESCROWS];
+    let claimed = header[RECEIPTS] as usize;
+    let entries = header[ENTRIES] as usize;
+    let provider = rows::find_row(wallets, count, s.signer);
+    let requester = rows::find_row(wallets, count, s.target);
+    let row = row_of(held, s.link);
+    let from = rows::get(escrows, ESCROW_LEN, row, FROM);
+    let to = rows::get(escrows, ESCROW_LEN, row, TO);
+    let deadline = rows::get(escrows, ESCROW_LEN, row, ESCROW_DEADLINE);
+    let state = rows::get(escrows, ESCROW_LEN, row, ESCROW_STATE);
+    let linked = s.link != 0;
+    let there = (0 < s.link) & (s.link <= held);
+    let recipient_invalid = (s.target == 0) | (s.target == s.signer);
+    let window_too_short = s.until < s.issued + MIN_ACCEPTANCE_MS;
+    let window_too_long = s.issued + MAX_ACCEPTANCE_MS < s.until;
+    let deadline_past = s.until < s.now;
+    let escrow_not_found = linked & !there;
+    let escrow_not_open = linked & (there & !((state == IS_OPEN) & (s.now <= deadline)));
+    let did_mismatch = linked & (there & ((from != s.target) | (to != s.signer)));
+    let deadline_exceeds_escrow = linked & (there & (deadline < s.until));
+    let receipt_table_full = receipts.len() / RECEIPT_LEN <= claimed;
+    let journal_table_full = journal.len() / JOURNAL_LEN <= entries;
+    let r40 = rows::choose(journal_table_full, 40, 0);
+    let r39 = rows::choose(receipt_table_full, 39, r40);
+    let r31 = rows::choose(deadline_exceeds_escrow, 31, r39);
+    let r30 = rows::choose(did_mismatch, 30, r31);
+    let r29 = rows::choose(escrow_not_open, 29, r30);
+    let r27 = rows::choose(escrow_not_found, 27, r29);
+    let r26 = rows::choose(deadline_past, 26, r27);
+    let r25 = rows::choose(window_too_long, 25, r26);
+    let r24 = rows::choose(window_too_short, 24, r25);
+    let r23 = rows::choose(!(requester < count), 23, r24);
+    let r22 = rows::choose(!(provider < count), 22, r23);
+    rows::choose(recipient_invalid, 15, r22)
+}
+
+// An accept or a dispute: checks 32 to 35, 40.
+pub fn reply_refusal(header: &[u64], receipts: &[u64], journal: &[u64], s: Submission) -> u64
+    requires { ⌜ (ENTRIES < length (now header)) × (getD (now header) RECEIPTS 0 ≤ MAX-RECEIPTS) × ((s .op ≡ ACCEPT) ⊎ (s .op ≡ DISPUTE)) ⌝ }
+    ensures { λ x. ⌜ ((w e : List ℕ) → x ≡ first (operationRefusals (ledger (now (header .entry)) w e (now (receipts .entry)) (now (journal .entry))) s)) ⌝ }
+{
+    let count = header[RECEIPTS];
+    let entries = header[ENTRIES] as usize;
+    let row = row_of(count, s.target);
+    let requester = rows::get(receipts, RECEIPT_LEN, row, REQUESTER);
+    let state = rows::get(receipts, RECEIPT_LEN, row, RECEIPT_STATE);
+    let there = (0 < s.target) & (s.target <= count);
+    let signer_not_authorized = there & (s.signer != requester);
+    let not_pending = there & (state != PENDING);
+    let reason_required = (s.op == DISPUTE) & (s.flags / REASON_GIVEN % 2 == 0);
+    let journal_table_full = journal.len() / JOURNAL_LEN <= entries;
+    let r40 = rows::choose(journal_table_full, 40, 0);
+    let r35 = rows::choose(reason_required, 35, r40);
+    let r34 = rows::choose(not_pending, 34, r35);
+    let r33 = rows::choose(signer_not_authorized, 33, r34);
+    rows::choose(!there, 32, r33)
+}

@@ -1,0 +1,100 @@
+// Entry points for a host in Rust or C. Each only passes on to the core's own call and repeats its contract, so nothing new is decided here.
+// A slice is a pointer, then a count of elements.
+ghost use mathlib.Core.Path.{_≡_};
+ghost use Rattle.rules.specs.Ledger.{first-edition, ledger, outcome, fresh};
+ghost use Rattle.rules.specs.Lookup.{escrowPlace, receiptPlace, walletNumber};
+ghost use Rattle.rules.specs.Record.{Written, readOf, writeOf};
+ghost use Rattle.rules.specs.Status.{statusOf};
+ghost use Rattle.rules.specs.Submit.{submit};
+use rules::Answer;
+use rules::EscrowNumber;
+use rules::Read;
+use rules::ReceiptNumber;
+use rules::Submission;
+
+// A submission over the five lent tables: its answer, and the tables as document 01 lays them down; a refusal changes nothing.
+#[no_mangle]
+pub extern "C" fn milebeacon_submit(
+    header: &mut [u64],
+    wallets: &mut [u64],
+    escrows: &mut [u64],
+    receipts: &mut [u64],
+    journal: &mut [u64],
+    bytes: &[u8],
+) -> Answer
+    ensures { λ x. ⌜ outcome (x .number) (x .word) (ledger (now (header .exit)) (now (wallets .exit)) (now (escrows .exit)) (now (receipts .exit)) (now (journal .exit)))
+        ≡ submit (ledger (now (header .entry)) (now (wallets .entry)) (now (escrows .entry)) (now (receipts .entry)) (now (journal .entry))) (now (bytes .entry)) ⌝ }
+{
+    ledger::submit(header, wallets, escrows, receipts, journal, bytes)
+}
+
+// Starts afresh: 0, or 1 for a wrong length.
+#[no_mangle]
+pub extern "C" fn milebeacon_fresh(
+    header: &mut [u64],
+    wallets: &mut [u64],
+    escrows: &mut [u64],
+    receipts: &mut [u64],
+    journal: &mut [u64],
+) -> u64
+    ensures { λ x. ⌜ outcome x 0 (ledger (now (header .exit)) (now (wallets .exit)) (now (escrows .exit)) (now (receipts .exit)) (now (journal .exit)))
+        ≡ fresh (ledger (now (header .entry)) (now (wallets .entry)) (now (escrows .entry)) (now (receipts .entry)) (now (journal .entry))) ⌝ }
+{
+    ledger::fresh(header, wallets, escrows, receipts, journal)
+}
+
+// Reads a record: 0 and its fields, or 3 and zeros.
+#[no_mangle]
+pub extern "C" fn milebeacon_read(bytes: &[u8]) -> Read
+    ensures { λ r. ⌜ r ≡ readOf (now (bytes .entry)) ⌝ }
+{
+    record::read_record(bytes)
+}
+
+// Writes a record: 0 and its bytes, or 3 and the output as it was.
+#[no_mangle]
+pub extern "C" fn milebeacon_write(submission: Submission, out: &mut [u8]) -> u64
+    ensures { λ r. ⌜ _≡_ {A = Written} (record { number = r; out = now (out .exit) }) (writeOf submission (now (out .entry))) ⌝ }
+{
+    record::write_record(submission, out)
+}
+
+// The status of an answer.
+#[no_mangle]
+pub extern "C" fn milebeacon_status(number: u64) -> u64
+    ensures { λ r. ⌜ r ≡ statusOf number ⌝ }
+{
+    rules::status(number)
+}
+
+// The number of a wallet's row, or 0.
+#[no_mangle]
+pub extern "C" fn milebeacon_wallet_row(header: &[u64], wallets: &[u64], id: u64) -> u64
+    ensures { λ r. ⌜ r ≡ walletNumber first-edition (now (header .entry)) (now (wallets .entry)) id ⌝ }
+{
+    ledger::lookups::wallet_row(header, wallets, id).0
+}
+
+// Where an escrow's row starts in its table, in words, or the table's length: a part of a slice cannot be returned across this boundary.
+#[no_mangle]
+pub extern "C" fn milebeacon_escrow_place(
+    header: &[u64],
+    escrows: &[u64],
+    number: EscrowNumber,
+) -> usize
+    ensures { λ r. ⌜ r ≡ escrowPlace first-edition (now (header .entry)) (now (escrows .entry)) (number .0) ⌝ }
+{
+    ledger::lookups::escrow_place(header, escrows, number)
+}
+
+// The same of a receipt.
+#[no_mangle]
+pub extern "C" fn milebeacon_receipt_place(
+    header: &[u64],
+    receipts: &[u64],
+    number: ReceiptNumber,
+) -> usize
+    ensures { λ r. ⌜ r ≡ receiptPlace first-edition (now (header .entry)) (now (receipts .entry)) (number .0) ⌝ }
+{
+    ledger::lookups::receipt_place(header, receipts, number)
+}

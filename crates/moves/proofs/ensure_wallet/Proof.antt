@@ -1,0 +1,38 @@
+-- `moves::ensure_wallet` meets its contract: the wallet is there, or its row is added.
+use Rattle.moves.proofs.Wallets.{ensured-found, ensured-new}
+use borrow.Author.Needs.{needs}
+use Rattle.moves.proofs.ensure_wallet.Statement.{statement}
+use Rattle.moves.proofs.ensure_wallet.Tie as tie
+
+slice-read-written : tie.Need-slice-read-written
+slice-read-written c = search needs
+
+returns : tie.Need-returns
+returns c = λ e r j. ensured-found _ _ e r j _ _ (c .before .before .before .before .pre .1) (c .if1 .taken)
+
+slice-aggregate-append : tie.Need-slice-aggregate-append
+slice-aggregate-append c = search needs
+
+append-requires : tie.Need-append-requires
+append-requires c κs = search needs
+
+same-length : tie.Need-same-length
+same-length c = search needs
+
+same-length-2 : tie.Need-same-length-2
+same-length-2 c = search needs
+
+returns-2 : tie.Need-returns-2
+returns-2 c = λ e r j. ensured-new _ _ _ _ e r j _ _ (c .before .before .before .before .before .before .before .before .before .before .before .before .pre .1) (c .before .before .before .before .before .before .before .before .if1 .left) (c .before .before .before .before .append .ensures .1) (c .before .before .before .before .append .ensures .2)
+
+pub ensure-wallet-spec : {M : Type 1} → statement M
+ensure-wallet-spec =
+    tie.close
+    (tie.spec
+    slice-read-written
+    returns
+    slice-aggregate-append
+    append-requires
+    same-length
+    same-length-2
+    returns-2)

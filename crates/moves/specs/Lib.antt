@@ -1,0 +1,2 @@
+-- What the moves' contracts cite.
+pub mod Needs

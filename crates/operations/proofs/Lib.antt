@@ -1,0 +1,4 @@
+-- The steps of each operation over plain values, which the proofs of the functions cite.
+pub mod Made
+pub mod Pays
+pub mod Sets

@@ -1,0 +1,2 @@
+-- What the operations' contracts cite.
+pub mod Needs

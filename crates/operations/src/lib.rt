@@ -1,0 +1,204 @@
+// What each operation but the sweep does to the tables, over the small moves. Clock and journal are left to `settling`. What an operation
+// may rely on stands in specs/Needs.antt; it is what no refusal and a sound ledger leave.
+use rules::EscrowNumber;
+use rules::ReceiptNumber;
+use rules::Submission;
+use rules::limits::AUTO_OR_FREEZE;
+use rules::limits::BALANCE;
+use rules::limits::DAILY_CAP;
+use rules::limits::DISPUTED;
+use rules::limits::ESCROW_LEN;
+use rules::limits::ESCROWS;
+use rules::limits::FROZEN;
+use rules::limits::GRANTED;
+use rules::limits::IS_OPEN;
+use rules::limits::LOCKED;
+use rules::limits::PENDING;
+use rules::limits::RECEIPT_LEN;
+use rules::limits::RECEIPTS;
+use rules::limits::REFUNDED;
+use rules::limits::RELEASED;
+use rules::limits::SYSTEM_FROZEN;
+use rules::limits::TX_CAP;
+use rules::limits::WALLET_LEN;
+use rules::limits::WALLETS;
+ghost use mathlib.Core.Path.{_≡_};
+ghost use mathlib.Core.List.{List};
+ghost use Prim.Native.Nat.{ℕ, _-_, _≤_};
+ghost use Rattle.rules.specs.Limits.{MAX-RECEIPTS, BALANCE, AUTO-OR-FREEZE};
+ghost use Rattle.rules.specs.Ledger.{ledger};
+ghost use Rattle.rules.specs.Record.{bit};
+ghost use Rattle.rules.specs.Settle.{done, lower, ensureWallet, grant, transfer, openEscrow, release, refund, claim, accept, dispute, freeze, caps};
+ghost use Rattle.moves.specs.Needs.{rowIn, Counted, Ends, Accepts};
+ghost use Rattle.operations.specs.Needs.{Granting, Paying, Opening, Claiming};
+
+// Grant raises the target's balance and the granted total.
+pub fn grant(header: &mut [u64], wallets: &mut [u64], s: Submission) -> u64
+    requires { ⌜ Granting (now header) (now wallets) s ⌝ }
+    ensures { λ x. ⌜ ((e r j : List ℕ) → done x (ledger (now (header .exit)) (now (wallets .exit)) e r j) ≡ grant s (ledger (now (header .entry)) (now (wallets .entry)) e r j)) ⌝ }
+{
+    let granted = header[GRANTED];
+    let row = rows::find_row(wallets, header[WALLETS] as usize, s.target);
+    moves::ensure_wallet(header, wallets, row, s.target);
+    moves::raise(wallets, row, BALANCE, s.amount);
+    header[GRANTED] = granted + s.amount;
+    0
+}
+
+// Where a payment goes from and to.
+struct Parties {
+    pub signer: usize,
+    pub target: usize,
+}
+
+// The first half of a payment: the target has a wallet, and the amount has left the signer's balance.
+fn pay(header: &mut [u64], wallets: &mut [u64], s: Submission) -> Parties
+    requires { ⌜ Paying (now header) (now wallets) s ⌝ }
+    ensures { λ x. ⌜ (x .signer ≡ rowIn (now (header .entry)) (now (wallets .entry)) (s .signer)) × (x .target ≡ rowIn (now (header .entry)) (now (wallets .entry)) (s .target)) × ((e r j : List ℕ) → ledger (now (header .exit)) (now (wallets .exit)) e r j ≡ lower BALANCE (s .signer) (s .amount) (ensureWallet (s .target) (ledger (now (header .entry)) (now (wallets .entry)) e r j))) ⌝ }
+{
+    let written = header[WALLETS] as usize;
+    let signer = rows::find_row(wallets, written, s.signer);
+    let target = rows::find_row(wallets, written, s.target);
+    moves::ensure_wallet(header, wallets, target, s.target);
+    moves::lower(wallets, signer, BALANCE, s.amount);
+    Parties { signer, target }
+}
+
+// Transfer moves balance.
+pub fn transfer(header: &mut [u64], wallets: &mut [u64], s: Submission) -> u64
+    requires { ⌜ Paying (now header) (now wallets) s ⌝ }
+    ensures { λ x. ⌜ ((e r j : List ℕ) → done x (ledger (now (header .exit)) (now (wallets .exit)) e r j) ≡ transfer s (ledger (now (header .entry)) (now (wallets .entry)) e r j)) ⌝ }
+{
+    let parties = pay(header, wallets, s);
+    moves::raise(wallets, parties.target, BALANCE, s.amount);
+    0
+}
+
+// Open moves balance to locked; the word is the escrow's number.
+pub fn open_escrow(
+    header: &mut [u64],
+    wallets: &mut [u64],
+    escrows: &mut [u64],
+    s: Submission,
+) -> u64
+    requires { ⌜ Opening (now header) (now wallets) s ⌝ }
+    ensures { λ x. ⌜ ((r j : List ℕ) → done x (ledger (now (header .exit)) (now (wallets .exit)) (now (escrows .exit)) r j) ≡ openEscrow s (ledger (now (header .entry)) (now (wallets .entry)) (now (escrows .entry)) r j)) ⌝ }
+{
+    let parties = pay(header, wallets, s);
+    moves::raise(wallets, parties.signer, LOCKED, s.amount);
+    moves::append(
+        header,
+        escrows,
+        ESCROW_LEN,
+        ESCROWS,
+        &[s.signer, s.target, s.amount, s.until, IS_OPEN, s.now, 0, 0],
+    )
+}
+
+// Release pays the recipient.
+pub fn release(header: &[u64], wallets: &mut [u64], escrows: &mut [u64], s: Submission) -> u64
+    requires { ⌜ (1 ≤ s .target) × Ends (now header) (now wallets) (now escrows) (s .target - 1) ⌝ }
+    ensures { λ x. ⌜ ((r j : List ℕ) → done x (ledger (now (header .entry)) (now (wallets .exit)) (now (escrows .exit)) r j) ≡ release s (ledger (now (header .entry)) (now (wallets .entry)) (now (escrows .entry)) r j)) ⌝ }
+{
+    let number = EscrowNumber(s.target);
+    moves::end_escrow(header, wallets, escrows, number, RELEASED, s.now, s.signer);
+    0
+}
+
+// Refund returns it to the sender.
+pub fn refund(header: &[u64], wallets: &mut [u64], escrows: &mut [u64], s: Submission) -> u64
+    requires { ⌜ (1 ≤ s .target) × Ends (now header) (now wallets) (now escrows) (s .target - 1) ⌝ }
+    ensures { λ x. ⌜ ((r j : List ℕ) → done x (ledger (now (header .entry)) (now (wallets .exit)) (now (escrows .exit)) r j) ≡ refund s (ledger (now (header .entry)) (now (wallets .entry)) (now (escrows .entry)) r j)) ⌝ }
+{
+    let number = EscrowNumber(s.target);
+    moves::end_escrow(header, wallets, escrows, number, REFUNDED, s.now, s.signer);
+    0
+}
+
+// Bit 2 of the flags: auto-accept, or freeze.
+fn auto_or_freeze(flags: u8) -> u64
+    ensures { λ x. ⌜ x ≡ bit AUTO-OR-FREEZE flags ⌝ }
+{
+    (flags / AUTO_OR_FREEZE % 2) as u64
+}
+
+// Claim's word is the receipt's number.
+pub fn claim(header: &mut [u64], receipts: &mut [u64], s: Submission) -> u64
+    requires { ⌜ Claiming (now header) ⌝ }
+    ensures { λ x. ⌜ ((w e j : List ℕ) → done x (ledger (now (header .exit)) w e (now (receipts .exit)) j) ≡ claim s (ledger (now (header .entry)) w e (now (receipts .entry)) j)) ⌝ }
+{
+    let auto = auto_or_freeze(s.flags);
+    moves::append(
+        header,
+        receipts,
+        RECEIPT_LEN,
+        RECEIPTS,
+        &[
+            s.signer,
+            s.target,
+            s.link,
+            s.until,
+            auto,
+            PENDING,
+            s.now,
+            0,
+            0,
+            0,
+            s.hash0,
+            s.hash1,
+            s.hash2,
+            s.hash3,
+        ],
+    )
+}
+
+// Accept closes the receipt, and releases the escrow that it links if it can.
+pub fn accept(
+    header: &[u64],
+    wallets: &mut [u64],
+    escrows: &mut [u64],
+    receipts: &mut [u64],
+    s: Submission,
+) -> u64
+    requires { ⌜ (1 ≤ s .target) × Accepts (now header) (now wallets) (now escrows) (now receipts) (s .now) (s .target - 1) ⌝ }
+    ensures { λ x. ⌜ ((j : List ℕ) → done x (ledger (now (header .entry)) (now (wallets .exit)) (now (escrows .exit)) (now (receipts .exit)) j) ≡ accept s (ledger (now (header .entry)) (now (wallets .entry)) (now (escrows .entry)) (now (receipts .entry)) j)) ⌝ }
+{
+    let number = ReceiptNumber(s.target);
+    moves::accept_receipt(header, wallets, escrows, receipts, number, s.now, s.signer)
+}
+
+// Dispute closes the receipt as disputed and moves no credits.
+pub fn dispute(receipts: &mut [u64], s: Submission) -> u64
+    requires { ⌜ (1 ≤ s .target) × (s .target ≤ MAX-RECEIPTS) ⌝ }
+    ensures { λ x. ⌜ ((h w e j : List ℕ) → done x (ledger h w e (now (receipts .exit)) j) ≡ dispute s (ledger h w e (now (receipts .entry)) j)) ⌝ }
+{
+    let number = ReceiptNumber(s.target);
+    moves::close_receipt(receipts, number, DISPUTED, s.now, s.signer);
+    0
+}
+
+// Freeze sets the wallet's frozen word, or the system's for target 0, to bit 2.
+pub fn freeze(header: &mut [u64], wallets: &mut [u64], s: Submission) -> u64
+    requires { ⌜ Counted (now header) (now wallets) ⌝ }
+    ensures { λ x. ⌜ ((e r j : List ℕ) → done x (ledger (now (header .exit)) (now (wallets .exit)) e r j) ≡ freeze s (ledger (now (header .entry)) (now (wallets .entry)) e r j)) ⌝ }
+{
+    let frozen = auto_or_freeze(s.flags);
+    if s.target == 0 {
+        header[SYSTEM_FROZEN] = frozen;
+        return 0;
+    }
+    let row = rows::find_row(wallets, header[WALLETS] as usize, s.target);
+    rows::set(wallets, WALLET_LEN, row, FROZEN, frozen);
+    0
+}
+
+// Caps sets both caps.
+pub fn caps(header: &[u64], wallets: &mut [u64], s: Submission) -> u64
+    requires { ⌜ Counted (now header) (now wallets) ⌝ }
+    ensures { λ x. ⌜ ((e r j : List ℕ) → done x (ledger (now (header .entry)) (now (wallets .exit)) e r j) ≡ caps s (ledger (now (header .entry)) (now (wallets .entry)) e r j)) ⌝ }
+{
+    let row = rows::find_row(wallets, header[WALLETS] as usize, s.target);
+    rows::set(wallets, WALLET_LEN, row, TX_CAP, s.amount);
+    rows::set(wallets, WALLET_LEN, row, DAILY_CAP, s.link);
+    0
+}

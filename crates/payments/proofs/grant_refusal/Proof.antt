@@ -1,0 +1,69 @@
+-- `payments::grant_refusal` meets its contract.
+use Rattle.payments.proofs.Grant.{grant-by}
+use borrow.Author.Needs.{needs}
+use Rattle.payments.proofs.grant_refusal.Statement.{statement}
+use Rattle.payments.proofs.grant_refusal.Tie as tie
+use Rattle.payments.proofs.grant_refusal.Reads as reads
+use Rattle.payments.proofs.grant_refusal.Lts as lts
+use Rattle.payments.proofs.sums.exceeds.Reads as exceeds-reads
+use Rattle.rows.proofs.choose.Reads as choose-reads
+use Rattle.rows.proofs.find_row.Reads as find-row-reads
+
+shared-slice-read-granted : tie.Need-shared-slice-read-granted
+shared-slice-read-granted c = search needs
+
+shared-slice-read-count : tie.Need-shared-slice-read-count
+shared-slice-read-count c = search needs
+
+shared-slice-read-entries : tie.Need-shared-slice-read-entries
+shared-slice-read-entries c = search needs
+
+find-row-requires : tie.Need-find-row-requires
+find-row-requires c κs = search needs
+
+exceeds-requires : tie.Need-exceeds-requires
+exceeds-requires c κs = search needs
+
+choose-requires : tie.Need-choose-requires
+choose-requires c κs = search needs
+
+choose-requires-2 : tie.Need-choose-requires-2
+choose-requires-2 c κs = search needs
+
+choose-requires-3 : tie.Need-choose-requires-3
+choose-requires-3 c κs = search needs
+
+choose-requires-4 : tie.Need-choose-requires-4
+choose-requires-4 c κs = search needs
+
+choose-requires-5 : tie.Need-choose-requires-5
+choose-requires-5 c κs = search needs
+
+returns : tie.Need-returns
+returns c =
+    let read = c .before .before .before .before .before .before .before .before in
+    λ e r. grant-by _ _ e r _ _ _ _ _ _ _ _ _
+    (read .before .before .before .before .before .before .before .before .pre .2)
+    (read .before .find-row .ensures)
+    (read .exceeds .ensures)
+    (c .before .before .before .before .choose .ensures)
+    (c .before .before .before .choose2 .ensures)
+    (c .before .before .choose3 .ensures)
+    (c .before .choose4 .ensures)
+    (c .choose5 .ensures)
+
+pub grant-refusal-spec : {M : Type 1} → statement M
+grant-refusal-spec =
+    tie.close
+    (tie.spec
+    shared-slice-read-granted
+    shared-slice-read-count
+    shared-slice-read-entries
+    find-row-requires
+    exceeds-requires
+    choose-requires
+    choose-requires-2
+    choose-requires-3
+    choose-requires-4
+    choose-requires-5
+    returns)

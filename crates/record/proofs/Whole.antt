@@ -1,0 +1,80 @@
+-- The reader and the writer as wholes, over plain values: what they answer from what their parts found. And any two answers that their
+-- contracts permit are equal.
+use mathlib.Core.Path.{_≡_, sym, _∙_, subst}
+use mathlib.Core.List.{List}
+use mathlib.Core.Bool.{Bool, true, false, cond, _&&_}
+use Prim.Native.Nat.{ℕ, _≤_}
+use lib.Dec.{T, eqb, leb, lit≤}
+use lib.ListN.{getD, set, length, length-set}
+use lib.Seq.{sets}
+use borrow.Author.Tests.{eq-eqb, ne-eqb}
+use Rattle.rules.specs.Limits.{RECORD-BYTES, MARK-0, MARK-1}
+use Rattle.rules.specs.Record.{decode, encode, wordsOf, wordBytes, nothing, wellFormed, accepted, readOf, Written, writeOf}
+use Rattle.rules.specs.declared.Submission.{Submission}
+use Rattle.rules.specs.declared.Read.{Read}
+use Rattle.rules.proofs.Rows.{sets-whole}
+
+-- a place of a record is within it
+pub room : (b : List ℕ) → length b ≡ RECORD-BYTES → {m : ℕ} → T (leb m RECORD-BYTES) → m ≤ length b
+room b h {m} t = subst (λ (n : ℕ). m ≤ n) (sym h) (lit≤ t)
+
+-- ---- the reader
+abbrev refused : Read
+refused = record { number = 3; submission = nothing }
+
+pub read-short : (b : List ℕ) (r : Read) → r ≡ refused → (length b ≡ RECORD-BYTES → ⊥) → r ≡ readOf b
+unfolding readOf accepted
+read-short b r x n = rw (ne-eqb (length b) RECORD-BYTES n) x
+
+-- the code's tests of mark and form
+abbrev Marked : List ℕ → Bool → Bool
+Marked b w = eqb (getD b 0 0) MARK-0 && (eqb (getD b 1 0) MARK-1 && w)
+
+read-by : (b : List ℕ) (s : Submission) {w : Bool} → length b ≡ RECORD-BYTES → s ≡ decode b → w ≡ wellFormed s
+    → cond (Marked b w) (record { number = 0; submission = s }) refused ≡ readOf b
+unfolding readOf accepted
+read-by b s l x y = rw (eq-eqb (length b) RECORD-BYTES l, y, x)
+
+pub read-there : (b : List ℕ) (s : Submission) {w : Bool} → length b ≡ RECORD-BYTES → s ≡ decode b → w ≡ wellFormed s → Marked b w ≡ true
+    → record { number = 0; submission = s } ≡ readOf b
+read-there b s l x y t = rw t at (read-by b s l x y)
+
+pub read-malformed : (b : List ℕ) (s : Submission) {w : Bool} (r : Read) → r ≡ refused → length b ≡ RECORD-BYTES → s ≡ decode b → w ≡ wellFormed s → Marked b w ≡ false
+    → r ≡ readOf b
+read-malformed b s r z l x y t = z ∙ rw t at (read-by b s l x y)
+
+-- ---- the writer
+-- the first four bytes stored, and then the words
+abbrev Headed : List ℕ → Submission → List ℕ
+Headed out s = set (set (set (set out 0 MARK-0) 1 MARK-1) 2 (s .op)) 3 (s .flags)
+
+pub headed : (out : List ℕ) (s : Submission) → length (Headed out s) ≡ length out
+headed out s = simp length-set
+
+pub headed-room : (out : List ℕ) (s : Submission) → length out ≡ RECORD-BYTES → RECORD-BYTES ≤ length (Headed out s)
+headed-room out s h = room (Headed out s) (headed out s ∙ h) tt
+
+pub stored : (out out′ : List ℕ) (s : Submission) → length out ≡ RECORD-BYTES → out′ ≡ sets (Headed out s) 4 (wordBytes (wordsOf s)) → out′ ≡ encode s
+unfolding encode
+stored out out′ s h x = x ∙ sets-whole out (encode s) h
+
+pub write-short : (s : Submission) (out : List ℕ) → (length out ≡ RECORD-BYTES → ⊥) → record { number = 3; out = out } ≡ writeOf s out
+unfolding writeOf
+write-short s out n = rw (ne-eqb (length out) RECORD-BYTES n)
+
+pub write-there : (s : Submission) (out out′ : List ℕ) {w : Bool} → length out ≡ RECORD-BYTES → w ≡ wellFormed s → w ≡ true → out′ ≡ encode s
+    → record { number = 0; out = out′ } ≡ writeOf s out
+unfolding writeOf
+write-there s out out′ l y t x = rw (eq-eqb (length out) RECORD-BYTES l, ← y, t, x)
+
+pub write-malformed : (s : Submission) (out : List ℕ) {w : Bool} → length out ≡ RECORD-BYTES → w ≡ wellFormed s → w ≡ false
+    → record { number = 3; out = out } ≡ writeOf s out
+unfolding writeOf
+write-malformed s out l y t = rw (eq-eqb (length out) RECORD-BYTES l, ← y, t)
+
+-- ---- any two permitted answers
+pub one-read : (b : List ℕ) (r₁ r₂ : Read) → r₁ ≡ readOf b → r₂ ≡ readOf b → r₁ ≡ r₂
+one-read b r₁ r₂ p q = p ∙ sym q
+
+pub one-written : (s : Submission) (out : List ℕ) (w₁ w₂ : Written) → w₁ ≡ writeOf s out → w₂ ≡ writeOf s out → w₁ ≡ w₂
+one-written s out w₁ w₂ p q = p ∙ sym q

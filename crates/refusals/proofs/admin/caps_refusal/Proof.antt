@@ -1,0 +1,48 @@
+-- `admin::caps_refusal` meets its contract.
+use Rattle.refusals.proofs.Others.{caps-by}
+use borrow.Author.Needs.{needs}
+use Rattle.refusals.proofs.admin.caps_refusal.Statement.{statement}
+use Rattle.refusals.proofs.admin.caps_refusal.Tie as tie
+use Rattle.refusals.proofs.admin.caps_refusal.Reads as reads
+use Rattle.refusals.proofs.admin.caps_refusal.Lts as lts
+use Rattle.rows.proofs.choose.Reads as choose-reads
+use Rattle.rows.proofs.find_row.Reads as find-row-reads
+
+shared-slice-read-count : tie.Need-shared-slice-read-count
+shared-slice-read-count c = search needs
+
+shared-slice-read-entries : tie.Need-shared-slice-read-entries
+shared-slice-read-entries c = search needs
+
+find-row-requires : tie.Need-find-row-requires
+find-row-requires c κs = search needs
+
+choose-requires : tie.Need-choose-requires
+choose-requires c κs = search needs
+
+choose-requires-2 : tie.Need-choose-requires-2
+choose-requires-2 c κs = search needs
+
+choose-requires-3 : tie.Need-choose-requires-3
+choose-requires-3 c κs = search needs
+
+returns : tie.Need-returns
+returns c =
+    λ e r. caps-by _ _ e r _ _ _ _ _ _
+    (c .before .before .before .before .before .before .before .before .before .before .before .pre .2)
+    (c .before .before .before .before .before .find-row .ensures)
+    (c .before .before .choose .ensures)
+    (c .before .choose2 .ensures)
+    (c .choose3 .ensures)
+
+pub caps-refusal-spec : {M : Type 1} → statement M
+caps-refusal-spec =
+    tie.close
+    (tie.spec
+    shared-slice-read-count
+    shared-slice-read-entries
+    find-row-requires
+    choose-requires
+    choose-requires-2
+    choose-requires-3
+    returns)

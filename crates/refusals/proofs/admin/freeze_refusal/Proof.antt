@@ -1,0 +1,43 @@
+-- `admin::freeze_refusal` meets its contract.
+use Rattle.refusals.proofs.Others.{freeze-by}
+use borrow.Author.Needs.{needs}
+use Rattle.refusals.proofs.admin.freeze_refusal.Statement.{statement}
+use Rattle.refusals.proofs.admin.freeze_refusal.Tie as tie
+use Rattle.refusals.proofs.admin.freeze_refusal.Reads as reads
+use Rattle.refusals.proofs.admin.freeze_refusal.Lts as lts
+use Rattle.rows.proofs.choose.Reads as choose-reads
+use Rattle.rows.proofs.find_row.Reads as find-row-reads
+
+shared-slice-read-count : tie.Need-shared-slice-read-count
+shared-slice-read-count c = search needs
+
+shared-slice-read-entries : tie.Need-shared-slice-read-entries
+shared-slice-read-entries c = search needs
+
+find-row-requires : tie.Need-find-row-requires
+find-row-requires c κs = search needs
+
+choose-requires : tie.Need-choose-requires
+choose-requires c κs = search needs
+
+choose-requires-2 : tie.Need-choose-requires-2
+choose-requires-2 c κs = search needs
+
+returns : tie.Need-returns
+returns c =
+    λ e r. freeze-by _ _ e r _ _ _ _ _
+    (c .before .before .before .before .before .before .before .before .before .pre .2)
+    (c .before .before .before .find-row .ensures)
+    (c .before .choose .ensures)
+    (c .choose2 .ensures)
+
+pub freeze-refusal-spec : {M : Type 1} → statement M
+freeze-refusal-spec =
+    tie.close
+    (tie.spec
+    shared-slice-read-count
+    shared-slice-read-entries
+    find-row-requires
+    choose-requires
+    choose-requires-2
+    returns)

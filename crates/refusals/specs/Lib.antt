@@ -1,0 +1,2 @@
+-- What the checks are given.
+pub mod Ready

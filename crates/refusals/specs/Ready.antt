@@ -1,0 +1,17 @@
+-- Where the checks 4 to 40 begin: answers 1, 2 and 3 were not given. And the rows of the table that are left.
+use mathlib.Core.Path.{_≡_}
+use mathlib.Core.List.{List, _++_}
+use mathlib.Core.Bool.{true}
+use Rattle.rules.specs.Ledger.{Ledger, lengthsRight}
+use Rattle.rules.specs.Sound.{sound}
+use Rattle.rules.specs.Record.{wellFormed}
+use Rattle.rules.specs.Refusals.{Refusal, envelopeRefusals, operationRefusals}
+use Rattle.rules.specs.declared.Submission.{Submission}
+
+pub record Ready (L : Ledger) (s : Submission) : Type 0 where
+  pub lengths : lengthsRight L ≡ true
+  pub right : sound L ≡ true
+  pub formed : wellFormed s ≡ true
+
+abbrev pub laterRefusals : Ledger → Submission → List Refusal
+laterRefusals L s = envelopeRefusals L s ++ operationRefusals L s

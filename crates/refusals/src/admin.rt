@@ -1,0 +1,52 @@
+// Checks 12, 16 and 40 of the operations that move no credits by themselves: sweep, freeze and caps.
+ghost use mathlib.Core.Path.{_≡_};
+ghost use mathlib.Core.List.{List};
+ghost use Prim.Native.Nat.{ℕ, _*_, _≤_, _<_};
+ghost use lib.ListN.{getD, length};
+ghost use Rattle.rules.specs.Limits.{WALLET-LEN, WALLETS, ENTRIES, SWEEP, FREEZE, CAPS};
+ghost use Rattle.rules.specs.Ledger.{Ledger, ledger};
+ghost use Rattle.rules.specs.Refusals.{first, operationRefusals};
+use rules::Submission;
+use rules::limits::ENTRIES;
+use rules::limits::JOURNAL_LEN;
+use rules::limits::MAX_AMOUNT_MICRO;
+use rules::limits::MAX_SWEEP_ROWS;
+use rules::limits::WALLETS;
+
+// A sweep: check 12, of its limit.
+pub fn sweep_refusal(s: Submission) -> u64
+    requires { ⌜ s .op ≡ SWEEP ⌝ }
+    ensures { λ x. ⌜ ((L : Ledger) → x ≡ first (operationRefusals L s)) ⌝ }
+{
+    let amount_out_of_range = !((1 <= s.amount) & (s.amount <= MAX_SWEEP_ROWS));
+    rows::choose(amount_out_of_range, 12, 0)
+}
+
+// A freeze: checks 16, 40. Target 0 is the system.
+pub fn freeze_refusal(header: &[u64], wallets: &[u64], journal: &[u64], s: Submission) -> u64
+    requires { ⌜ (ENTRIES < length (now header)) × (getD (now header) WALLETS 0 * WALLET-LEN ≤ length (now wallets)) × (s .op ≡ FREEZE) ⌝ }
+    ensures { λ x. ⌜ ((e r : List ℕ) → x ≡ first (operationRefusals (ledger (now (header .entry)) (now (wallets .entry)) e r (now (journal .entry))) s)) ⌝ }
+{
+    let count = header[WALLETS] as usize;
+    let entries = header[ENTRIES] as usize;
+    let row = rows::find_row(wallets, count, s.target);
+    let wallet_not_found = (s.target != 0) & !(row < count);
+    let journal_table_full = journal.len() / JOURNAL_LEN <= entries;
+    let r40 = rows::choose(journal_table_full, 40, 0);
+    rows::choose(wallet_not_found, 16, r40)
+}
+
+// New caps: checks 12, 16, 40.
+pub fn caps_refusal(header: &[u64], wallets: &[u64], journal: &[u64], s: Submission) -> u64
+    requires { ⌜ (ENTRIES < length (now header)) × (getD (now header) WALLETS 0 * WALLET-LEN ≤ length (now wallets)) × (s .op ≡ CAPS) ⌝ }
+    ensures { λ x. ⌜ ((e r : List ℕ) → x ≡ first (operationRefusals (ledger (now (header .entry)) (now (wallets .entry)) e r (now (journal .entry))) s)) ⌝ }
+{
+    let count = header[WALLETS] as usize;
+    let entries = header[ENTRIES] as usize;
+    let row = rows::find_row(wallets, count, s.target);
+    let amount_out_of_range = (MAX_AMOUNT_MICRO < s.amount) | (MAX_AMOUNT_MICRO < s.link);
+    let journal_table_full = journal.len() / JOURNAL_LEN <= entries;
+    let r40 = rows::choose(journal_table_full, 40, 0);
+    let r16 = rows::choose(!(row < count), 16, r40);
+    rows::choose(amount_out_of_range, 12, r16)
+}

@@ -1,0 +1,137 @@
+-- What a settled submission has passed, by operation: each fact is a refusal that did not hold, asked by its number. A fact about operations
+-- 1 to 3, say, takes `ap (oneOf (GRANT ∷ TRANSFER ∷ OPEN ∷ [])) e` for the operation's equation e.
+use mathlib.Core.Path.{_≡_, ap, subst}
+use mathlib.Core.Logic.{_≢_}
+use mathlib.Core.List.{[], _∷_}
+use mathlib.Core.Bool.{Bool, true, false, not, _&&_, _||_}
+use Prim.Native.Nat.{ℕ, _+_, _-_, _≤_, _<_}
+use native.Mathlib.Omega.{arith}
+use lib.Dec.{eqb, ltb, leb}
+use borrow.Author.Tests.{eqb-true, eqb-false, ne-eqb, ltb-true, ltb-false, leb-true, leb-false}
+use Rattle.rules.specs.Limits.{WALLET-LEN, RECEIPT-LEN, MAX-AMOUNT-MICRO, MAX-GRANTED-MICRO, GRANTED, BALANCE, FROM, TO, ESCROW-STATE, ESCROW-DEADLINE, IS-OPEN}
+use Rattle.rules.specs.Limits.{GRANT, TRANSFER, OPEN, CLAIM, ACCEPT, DISPUTE, FREEZE, CAPS}
+use Rattle.rules.specs.Table.{rowsIn}
+use Rattle.rules.specs.Ledger.{Ledger, head, escrow, walletCount, escrowCount, receiptCount, walletRow, hasWallet, walletOf, written}
+use Rattle.rules.specs.Sound.{between}
+use Rattle.rules.specs.Refusals.{refusals, entryRefusals, envelopeRefusals, operationRefusals, oneOf, on, paying, closing, ofEscrow, releasable}
+use Rattle.rules.specs.Submit.{answerOf}
+use Rattle.rules.specs.declared.Submission.{Submission}
+use Rattle.rules.specs.declared.Read.{Read}
+use Rattle.rules.proofs.Bools.{and-fst, and-snd, or-none-fst, or-none-snd, not-false-true}
+use Rattle.rules.proofs.Refused.{passed}
+use Rattle.rules.proofs.Calls.{for-op}
+
+-- a condition that says that its row is there, where it is
+there : (a x : Bool) → a ≡ true → a && x ≡ false → x ≡ false
+there a x t h = subst (λ (b : Bool). b && x ≡ false) t h
+
+-- a number that names one of n written rows is the number after one of them
+pub written-row : (n k : ℕ) → written n k ≡ true → k - 1 < n
+written-row n k h =
+    let low : 0 < k = ltb-true 0 k (and-fst (ltb 0 k) (leb k n) h) in
+    let high : k ≤ n = leb-true k n (and-snd (ltb 0 k) (leb k n) h) in
+    omega arith
+
+module _ (L : Ledger) (r : Read) (z : answerOf L r ≡ 0) where
+  abbrev s : Submission
+  s = r .submission
+
+  -- 12
+  amount-right : oneOf (GRANT ∷ TRANSFER ∷ OPEN ∷ []) (s .op) ≡ true → between 1 MAX-AMOUNT-MICRO (s .amount) ≡ true
+  unfolding refusals entryRefusals envelopeRefusals operationRefusals
+  amount-right t = not-false-true _ (for-op s (GRANT ∷ TRANSFER ∷ OPEN ∷ []) (not (between 1 MAX-AMOUNT-MICRO (s .amount))) t (or-none-fst _ _ (passed L r z 12)))
+
+  pub amount-low : oneOf (GRANT ∷ TRANSFER ∷ OPEN ∷ []) (s .op) ≡ true → 1 ≤ s .amount
+  amount-low t = leb-true 1 (s .amount) (and-fst (leb 1 (s .amount)) _ (amount-right t))
+
+  pub amount-high : oneOf (GRANT ∷ TRANSFER ∷ OPEN ∷ []) (s .op) ≡ true → s .amount ≤ MAX-AMOUNT-MICRO
+  amount-high t = leb-true (s .amount) MAX-AMOUNT-MICRO (and-snd (leb 1 (s .amount)) _ (amount-right t))
+
+  -- 13, 17
+  pub sender-row : oneOf paying (s .op) ≡ true → walletRow L (s .signer) < walletCount L
+  unfolding refusals entryRefusals envelopeRefusals operationRefusals
+  sender-row t = ltb-true _ _ (not-false-true _ (for-op s paying (not (hasWallet L (s .signer))) t (passed L r z 13)))
+
+  pub sender-has : oneOf paying (s .op) ≡ true → s .amount ≤ walletOf L (s .signer) BALANCE
+  unfolding refusals entryRefusals envelopeRefusals operationRefusals
+  sender-has t =
+      let h13 = not-false-true _ (for-op s paying (not (hasWallet L (s .signer))) t (passed L r z 13)) in
+      ltb-false _ _ (there (hasWallet L (s .signer)) _ h13 (for-op s paying _ t (passed L r z 17)))
+
+  -- 15
+  pub target-some : oneOf (GRANT ∷ TRANSFER ∷ OPEN ∷ CLAIM ∷ []) (s .op) ≡ true → s .target ≢ 0
+  unfolding refusals entryRefusals envelopeRefusals operationRefusals
+  target-some t = eqb-false (s .target) 0 (for-op s (GRANT ∷ TRANSFER ∷ OPEN ∷ CLAIM ∷ []) (eqb (s .target) 0) t (or-none-fst _ _ (passed L r z 15)))
+
+  pub target-other : oneOf (TRANSFER ∷ OPEN ∷ CLAIM ∷ []) (s .op) ≡ true → s .target ≢ s .signer
+  unfolding refusals entryRefusals envelopeRefusals operationRefusals
+  target-other t =
+      eqb-false (s .target) (s .signer) (for-op s (TRANSFER ∷ OPEN ∷ CLAIM ∷ []) (eqb (s .target) (s .signer)) t
+      (or-none-snd (on s (GRANT ∷ TRANSFER ∷ OPEN ∷ CLAIM ∷ []) (eqb (s .target) 0)) _ (passed L r z 15)))
+
+  -- 16
+  pub capped-row : oneOf (CAPS ∷ []) (s .op) ≡ true → walletRow L (s .target) < walletCount L
+  unfolding refusals entryRefusals envelopeRefusals operationRefusals
+  capped-row t =
+      ltb-true _ _ (not-false-true _ (for-op s (CAPS ∷ []) (not (hasWallet L (s .target))) t
+      (or-none-snd (on s (FREEZE ∷ []) (not (eqb (s .target) 0) && not (hasWallet L (s .target)))) _ (passed L r z 16))))
+
+  -- 27, 29
+  pub escrow-written : oneOf closing (s .op) ≡ true → written (escrowCount L) (s .target) ≡ true
+  unfolding refusals entryRefusals envelopeRefusals operationRefusals
+  escrow-written t = not-false-true _ (for-op s closing (not (written (escrowCount L) (s .target))) t (or-none-fst _ _ (passed L r z 27)))
+
+  pub escrow-row : oneOf closing (s .op) ≡ true → s .target - 1 < escrowCount L
+  escrow-row t = written-row (escrowCount L) (s .target) (escrow-written t)
+
+  pub escrow-open : oneOf closing (s .op) ≡ true → eqb (escrow L (s .target - 1) ESCROW-STATE) IS-OPEN ≡ true
+  unfolding refusals entryRefusals envelopeRefusals operationRefusals
+  escrow-open t =
+      let h = for-op s closing (ofEscrow L (s .target) (not (releasable L (s .now) (s .target - 1)))) t (or-none-fst _ _ (passed L r z 29)) in
+      and-fst _ (leb (s .now) (escrow L (s .target - 1) ESCROW-DEADLINE)) (not-false-true _ (there (written (escrowCount L) (s .target)) _ (escrow-written t) h))
+
+  -- a claim's link: 27, 30
+  pub link-written : oneOf (CLAIM ∷ []) (s .op) ≡ true → s .link ≢ 0 → written (escrowCount L) (s .link) ≡ true
+  unfolding refusals entryRefusals envelopeRefusals operationRefusals
+  link-written t ne =
+      not-false-true _ (there (not (eqb (s .link) 0)) (not (written (escrowCount L) (s .link))) (ap not (ne-eqb (s .link) 0 ne))
+      (for-op s (CLAIM ∷ []) _ t (or-none-snd (on s closing (not (written (escrowCount L) (s .target)))) _ (passed L r z 27))))
+
+  parties-match : oneOf (CLAIM ∷ []) (s .op) ≡ true → s .link ≢ 0
+      → not (eqb (escrow L (s .link - 1) FROM) (s .target)) || not (eqb (escrow L (s .link - 1) TO) (s .signer)) ≡ false
+  unfolding refusals entryRefusals envelopeRefusals operationRefusals
+  parties-match t ne =
+      there (written (escrowCount L) (s .link)) _ (link-written t ne)
+      (there (not (eqb (s .link) 0)) _ (ap not (ne-eqb (s .link) 0 ne)) (for-op s (CLAIM ∷ []) _ t (passed L r z 30)))
+
+  pub link-from : oneOf (CLAIM ∷ []) (s .op) ≡ true → s .link ≢ 0 → escrow L (s .link - 1) FROM ≡ s .target
+  link-from t ne = eqb-true _ _ (not-false-true _ (or-none-fst _ _ (parties-match t ne)))
+
+  pub link-to : oneOf (CLAIM ∷ []) (s .op) ≡ true → s .link ≢ 0 → escrow L (s .link - 1) TO ≡ s .signer
+  link-to t ne = eqb-true _ _ (not-false-true _ (or-none-snd (not (eqb (escrow L (s .link - 1) FROM) (s .target))) _ (parties-match t ne)))
+
+  -- 32
+  pub receipt-row : oneOf (ACCEPT ∷ DISPUTE ∷ []) (s .op) ≡ true → s .target - 1 < receiptCount L
+  unfolding refusals entryRefusals envelopeRefusals operationRefusals
+  receipt-row t =
+      written-row (receiptCount L) (s .target)
+      (not-false-true _ (for-op s (ACCEPT ∷ DISPUTE ∷ []) (not (written (receiptCount L) (s .target))) t (passed L r z 32)))
+
+  -- 36
+  pub grant-within : oneOf (GRANT ∷ []) (s .op) ≡ true → head L GRANTED + s .amount ≤ MAX-GRANTED-MICRO
+  unfolding refusals entryRefusals envelopeRefusals operationRefusals
+  grant-within t = ltb-false _ _ (for-op s (GRANT ∷ []) _ t (passed L r z 36))
+
+  -- room for a new row: 37, 38, 39
+  pub wallet-place : oneOf (GRANT ∷ TRANSFER ∷ OPEN ∷ []) (s .op) ≡ true → hasWallet L (s .target) ≡ false → walletCount L < rowsIn WALLET-LEN (L .wallets)
+  unfolding refusals entryRefusals envelopeRefusals operationRefusals
+  wallet-place t e =
+      leb-false _ _ (there (not (hasWallet L (s .target))) _ (ap not e) (for-op s (GRANT ∷ TRANSFER ∷ OPEN ∷ []) _ t (passed L r z 37)))
+
+  pub escrow-place : oneOf (OPEN ∷ []) (s .op) ≡ true → escrowCount L < rowsIn (L .edition .escrowLen) (L .escrows)
+  unfolding refusals entryRefusals envelopeRefusals operationRefusals
+  escrow-place t = leb-false _ _ (for-op s (OPEN ∷ []) _ t (passed L r z 38))
+
+  pub receipt-place : oneOf (CLAIM ∷ []) (s .op) ≡ true → receiptCount L < rowsIn RECEIPT-LEN (L .receipts)
+  unfolding refusals entryRefusals envelopeRefusals operationRefusals
+  receipt-place t = leb-false _ _ (for-op s (CLAIM ∷ []) _ t (passed L r z 39))

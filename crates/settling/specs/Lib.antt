@@ -1,0 +1,2 @@
+-- What settling's contracts cite.
+pub mod Needs

@@ -1,0 +1,21 @@
+-- A submission that nothing refuses: the lengths are right, the ledger is sound, the record is well-formed, and no condition of 4 to 40 holds.
+use mathlib.Core.Path.{_≡_}
+use mathlib.Core.List.{List, _++_}
+use mathlib.Core.Bool.{true}
+use Prim.Native.Nat.{ℕ}
+use Rattle.rules.specs.Ledger.{Ledger, ledger, lengthsRight}
+use Rattle.rules.specs.Record.{wellFormed}
+use Rattle.rules.specs.Sound.{sound}
+use Rattle.rules.specs.Refusals.{first, envelopeRefusals, operationRefusals}
+use Rattle.rules.specs.declared.Submission.{Submission}
+
+pub record Settles (L : Ledger) (s : Submission) : Type 0 where
+  pub lengths : lengthsRight L ≡ true
+  pub is-sound : sound L ≡ true
+  pub formed : wellFormed s ≡ true
+  pub passed : first (envelopeRefusals L s ++ operationRefusals L s) ≡ 0
+
+-- the same where the journal is not lent: there is one
+pub record Operates (header wallets escrows receipts : List ℕ) (s : Submission) : Type 0 where
+  pub journal : List ℕ
+  pub settles : Settles (ledger header wallets escrows receipts journal) s

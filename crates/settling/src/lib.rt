@@ -1,0 +1,97 @@
+// Settling a submission that no refusal holds back: its operation, then the clock, then the journal.
+use rules::Submission;
+use rules::limits::ACCEPT;
+use rules::limits::CAPS;
+use rules::limits::CLAIM;
+use rules::limits::CLOCK;
+use rules::limits::DISPUTE;
+use rules::limits::ENTRIES;
+use rules::limits::FREEZE;
+use rules::limits::GRANT;
+use rules::limits::JOURNAL_LEN;
+use rules::limits::OPEN;
+use rules::limits::REFUND;
+use rules::limits::RELEASE;
+use rules::limits::SWEEP;
+use rules::limits::TRANSFER;
+ghost use mathlib.Core.Path.{_≡_};
+ghost use mathlib.Core.List.{List};
+ghost use Prim.Native.Nat.{ℕ, _<_, _≤_};
+ghost use lib.ListN.{length, getD};
+ghost use Rattle.rules.specs.Limits.{MAX-ENTRIES, ENTRIES};
+ghost use Rattle.rules.specs.Ledger.{ledger};
+ghost use Rattle.rules.specs.Settle.{done, operate, enter, settle};
+ghost use Rattle.settling.specs.Needs.{Settles, Operates};
+
+// The operation, by its number. Each is lent the tables that it changes; the journal is lent to none.
+fn operate(
+    header: &mut [u64],
+    wallets: &mut [u64],
+    escrows: &mut [u64],
+    receipts: &mut [u64],
+    s: Submission,
+) -> u64
+    requires { ⌜ Operates (now header) (now wallets) (now escrows) (now receipts) s ⌝ }
+    ensures { λ x. ⌜ ((j : List ℕ) → done x (ledger (now (header .exit)) (now (wallets .exit)) (now (escrows .exit)) (now (receipts .exit)) j) ≡ operate s (ledger (now (header .entry)) (now (wallets .entry)) (now (escrows .entry)) (now (receipts .entry)) j)) ⌝ }
+{
+    let op = s.op;
+    match op {
+        GRANT => operations::grant(header, wallets, s),
+        TRANSFER => operations::transfer(header, wallets, s),
+        OPEN => operations::open_escrow(header, wallets, escrows, s),
+        RELEASE => operations::release(header, wallets, escrows, s),
+        REFUND => operations::refund(header, wallets, escrows, s),
+        CLAIM => operations::claim(header, receipts, s),
+        ACCEPT => operations::accept(header, wallets, escrows, receipts, s),
+        DISPUTE => operations::dispute(receipts, s),
+        SWEEP => sweeping::sweep(header, wallets, escrows, receipts, s.now, s.amount),
+        FREEZE => operations::freeze(header, wallets, s),
+        CAPS => operations::caps(header, wallets, s),
+        // no well-formed record has another operation
+        _ => 0,
+    }
+}
+
+// All but a sweep add one journal row.
+fn enter(header: &mut [u64], journal: &mut [u64], s: Submission, word: u64)
+    requires { ⌜ (ENTRIES < length (now header)) × (getD (now header) ENTRIES 0 ≤ MAX-ENTRIES) ⌝ }
+    ensures { λ x. ⌜ ((w e r : List ℕ) → ledger (now (header .exit)) w e r (now (journal .exit)) ≡ enter s word (ledger (now (header .entry)) w e r (now (journal .entry)))) ⌝ }
+{
+    if s.op == SWEEP {
+        return;
+    }
+    moves::append(
+        header,
+        journal,
+        JOURNAL_LEN,
+        ENTRIES,
+        &[
+            s.signer,
+            s.nonce,
+            s.op as u64,
+            s.target,
+            s.amount,
+            s.now,
+            word,
+            s.link,
+        ],
+    );
+}
+
+// Settles a submission that nothing refuses; the answer's word.
+pub fn settle(
+    header: &mut [u64],
+    wallets: &mut [u64],
+    escrows: &mut [u64],
+    receipts: &mut [u64],
+    journal: &mut [u64],
+    s: Submission,
+) -> u64
+    requires { ⌜ Settles (ledger (now header) (now wallets) (now escrows) (now receipts) (now journal)) s ⌝ }
+    ensures { λ x. ⌜ done x (ledger (now (header .exit)) (now (wallets .exit)) (now (escrows .exit)) (now (receipts .exit)) (now (journal .exit))) ≡ settle s (ledger (now (header .entry)) (now (wallets .entry)) (now (escrows .entry)) (now (receipts .entry)) (now (journal .entry))) ⌝ }
+{
+    let word = operate(header, wallets, escrows, receipts, s);
+    header[CLOCK] = s.now;
+    enter(header, journal, s, word);
+    word
+}

@@ -1,0 +1,125 @@
+-- One turn of a sweep, and a loop of turns: a row that is due is closed and counted, any other is passed over; once there is no room, what
+-- is left of the loop changes nothing, so the code may stop there.
+use mathlib.Core.Path.{_≡_, refl, sym, ap, _∙_}
+use mathlib.Core.List.{List}
+use mathlib.Core.Bool.{Bool, true, false, _&&_}
+use Prim.Native.Nat.{ℕ, zero, suc, _+_, _-_, _<_, _≤_}
+use native.Mathlib.Decide.{ℕ-discrete}
+use native.Mathlib.Numerals.{add-one}
+use native.Mathlib.Omega.{arith}
+use lib.Dec.{eqb, ltb}
+use borrow.Author.Tests.{eq-eqb, ne-eqb, lt-ltb}
+use Rattle.rules.specs.Limits.{RECEIPT-LEN, AUTO-ACCEPT, LAPSED, RECEIPT-STATE, ACCEPTANCE-DEADLINE, PENDING, ESCROW-STATE, ESCROW-DEADLINE, IS-OPEN, EXPIRED}
+use Rattle.rules.specs.Table.{word, loop}
+use Rattle.rules.specs.Ledger.{Ledger, ledger}
+use Rattle.rules.specs.Settle.{Sweep, done, Done, acceptRow, closeReceipt, endEscrow, closeDueReceipt, closeDueEscrow, sweepReceipt, sweepEscrow}
+use Rattle.rules.proofs.Turns.{turn}
+use Rattle.moves.specs.Needs.{ESCROW-LEN}
+use Rattle.sweeping.specs.Needs.{underWay}
+
+-- a due receipt is accepted, or expires
+pub due-accepted :
+    (h w e r w₁ e₁ r₁ : List ℕ) (time i auto x : ℕ)
+    → auto ≡ word r RECEIPT-LEN i AUTO-ACCEPT
+    → auto ≡ 1
+    → ((j : List ℕ) → done x (ledger h w₁ e₁ r₁ j) ≡ acceptRow time 0 i (ledger h w e r j))
+    → (j : List ℕ)
+    → ledger h w₁ e₁ r₁ j ≡ closeDueReceipt time i (ledger h w e r j)
+unfolding closeDueReceipt
+due-accepted h w e r w₁ e₁ r₁ time i auto x a z q j = rw (eq-eqb _ _ (sym a ∙ z)) (ap (λ (d : Done). d .after) (q j))
+
+pub due-lapsed :
+    (h w e r r₁ : List ℕ) (time i auto : ℕ)
+    → auto ≡ word r RECEIPT-LEN i AUTO-ACCEPT
+    → (auto ≡ 1 → ⊥)
+    → ((h w e j : List ℕ) → ledger h w e r₁ j ≡ closeReceipt LAPSED time 0 i (ledger h w e r j))
+    → (j : List ℕ)
+    → ledger h w e r₁ j ≡ closeDueReceipt time i (ledger h w e r j)
+unfolding closeDueReceipt
+due-lapsed h w e r r₁ time i auto a z q j = rw (ne-eqb _ _ (λ (y : word r RECEIPT-LEN i AUTO-ACCEPT ≡ 1). z (a ∙ y))) (q h w e j)
+
+-- whatever is due and however it is closed
+turned : (due : Ledger → ℕ → Bool) (close : ℕ → Ledger → Ledger) (L K : Ledger) (i room closed : ℕ)
+    → due L i ≡ true → K ≡ close i L → 0 < room → underWay (room - 1) (closed + 1) K ≡ turn due close i (underWay room closed L)
+turned due close L K i room closed d k l = rw (lt-ltb 0 room l, d, k)
+
+passed-over : (due : Ledger → ℕ → Bool) (close : ℕ → Ledger → Ledger) (L : Ledger) (i room closed : ℕ)
+    → due L i ≡ false → 0 < room → underWay (room - 0) (closed + 0) L ≡ turn due close i (underWay room closed L)
+passed-over due close L i room closed d l =
+    let r : room - 0 ≡ room = omega arith in
+    let c : closed + 0 ≡ closed = omega arith in
+    rw (lt-ltb 0 room l, d, r, c)
+
+module _ (h w e r : List ℕ) (time i : ℕ) (b : Bool)
+    (x : b ≡ (eqb (word r RECEIPT-LEN i RECEIPT-STATE) PENDING && ltb (word r RECEIPT-LEN i ACCEPTANCE-DEADLINE) time)) where
+  pub receipt-closed :
+      (w₁ e₁ r₁ : List ℕ)
+      → b ≡ true
+      → ((j : List ℕ) → ledger h w₁ e₁ r₁ j ≡ closeDueReceipt time i (ledger h w e r j))
+      → (j : List ℕ) (room closed : ℕ) → 0 < room
+      → underWay (room - 1) (closed + 1) (ledger h w₁ e₁ r₁ j) ≡ sweepReceipt time i (underWay room closed (ledger h w e r j))
+  unfolding sweepReceipt
+  receipt-closed w₁ e₁ r₁ t q j room closed l =
+      turned (λ L k. eqb (word (L .receipts) RECEIPT-LEN k RECEIPT-STATE) PENDING && ltb (word (L .receipts) RECEIPT-LEN k ACCEPTANCE-DEADLINE) time) (closeDueReceipt time)
+      (ledger h w e r j) (ledger h w₁ e₁ r₁ j) i room closed (sym x ∙ t) (q j) l
+
+  pub receipt-passed :
+      b ≡ false → (j : List ℕ) (room closed : ℕ) → 0 < room
+      → underWay (room - 0) (closed + 0) (ledger h w e r j) ≡ sweepReceipt time i (underWay room closed (ledger h w e r j))
+  unfolding sweepReceipt
+  receipt-passed t j room closed l =
+      passed-over (λ L k. eqb (word (L .receipts) RECEIPT-LEN k RECEIPT-STATE) PENDING && ltb (word (L .receipts) RECEIPT-LEN k ACCEPTANCE-DEADLINE) time) (closeDueReceipt time)
+      (ledger h w e r j) i room closed (sym x ∙ t) l
+
+module _ (h w e : List ℕ) (time i : ℕ) (b : Bool)
+    (x : b ≡ (eqb (word e ESCROW-LEN i ESCROW-STATE) IS-OPEN && ltb (word e ESCROW-LEN i ESCROW-DEADLINE) time)) where
+  pub escrow-closed :
+      (w₁ e₁ : List ℕ)
+      → b ≡ true
+      → ((r j : List ℕ) → ledger h w₁ e₁ r j ≡ endEscrow EXPIRED time 0 i (ledger h w e r j))
+      → (r j : List ℕ) (room closed : ℕ) → 0 < room
+      → underWay (room - 1) (closed + 1) (ledger h w₁ e₁ r j) ≡ sweepEscrow time i (underWay room closed (ledger h w e r j))
+  unfolding sweepEscrow closeDueEscrow
+  escrow-closed w₁ e₁ t q r j room closed l =
+      turned (λ L k. eqb (word (L .escrows) (L .edition .escrowLen) k ESCROW-STATE) IS-OPEN && ltb (word (L .escrows) (L .edition .escrowLen) k ESCROW-DEADLINE) time) (endEscrow EXPIRED time 0)
+      (ledger h w e r j) (ledger h w₁ e₁ r j) i room closed (sym x ∙ t) (q r j) l
+
+  pub escrow-passed :
+      b ≡ false → (r j : List ℕ) (room closed : ℕ) → 0 < room
+      → underWay (room - 0) (closed + 0) (ledger h w e r j) ≡ sweepEscrow time i (underWay room closed (ledger h w e r j))
+  unfolding sweepEscrow
+  escrow-passed t r j room closed l =
+      passed-over (λ L k. eqb (word (L .escrows) (L .edition .escrowLen) k ESCROW-STATE) IS-OPEN && ltb (word (L .escrows) (L .edition .escrowLen) k ESCROW-DEADLINE) time) (closeDueEscrow time)
+      (ledger h w e r j) i room closed (sym x ∙ t) l
+
+-- ---- a loop of turns
+
+pub loop-none : (f : ℕ → Sweep → Sweep) (s : Sweep) → loop 0 f s ≡ s
+unfolding loop
+loop-none f s = refl
+
+pub loop-next : (f : ℕ → Sweep → Sweep) (s t u : Sweep) (n i : ℕ) → t ≡ loop n f s → i ≡ n → u ≡ f i t → u ≡ loop (n + 1) f s
+unfolding loop
+loop-next f s t u n i a b c = rw (add-one n) (c ∙ ap (λ (k : ℕ). f k t) b ∙ ap (f n) a)
+
+-- a turn without room
+pub receipt-full : (time i : ℕ) (s : Sweep) → s .room ≡ 0 → sweepReceipt time i s ≡ s
+unfolding sweepReceipt
+receipt-full time i s z = rw z
+
+pub escrow-full : (time i : ℕ) (s : Sweep) → s .room ≡ 0 → sweepEscrow time i s ≡ s
+unfolding sweepEscrow
+escrow-full time i s z = rw z
+
+pub loop-full :
+    (f : ℕ → Sweep → Sweep) → ((i : ℕ) (s : Sweep) → s .room ≡ 0 → f i s ≡ s)
+    → (s : Sweep) (n m : ℕ) → loop n f s .room ≡ 0 → n ≤ m → loop n f s ≡ loop m f s
+unfolding loop
+loop-full f stays s n zero z l = let e : n ≡ 0 = omega arith in ap (λ (k : ℕ). loop k f s) e
+loop-full f stays s n (suc m) z l = go (ℕ-discrete n (suc m)) (loop-full f stays s n m z)
+  where
+    go : Dec (n ≡ suc m) → (n ≤ m → loop n f s ≡ loop m f s) → loop n f s ≡ f m (loop m f s)
+    go (yes e) ih = ap (λ (k : ℕ). loop k f s) e
+    go (no e) ih =
+        let p = ih (omega (arith, e)) in
+        p ∙ sym (stays m (loop m f s) (sym (ap (λ (t : Sweep). t .room) p) ∙ z))

@@ -1,0 +1,44 @@
+-- `sweeping::sweep` meets its contract: the receipts, then the escrows with the room that is left.
+use native.Mathlib.Omega.{arith}
+use Rattle.sweeping.proofs.Receipts.{expiring}
+use Rattle.sweeping.proofs.Escrows.{swept-by}
+use borrow.Author.Needs.{needs}
+use Rattle.sweeping.proofs.sweep.Statement.{statement}
+use Rattle.sweeping.proofs.sweep.Tie as tie
+
+sweep-receipts-requires : tie.Need-sweep-receipts-requires
+sweep-receipts-requires c κs = search needs
+
+sub-sweep-escrows : tie.Need-sub-sweep-escrows
+sub-sweep-escrows c = search needs
+
+sweep-escrows-requires : tie.Need-sweep-escrows-requires
+sweep-escrows-requires c κs = expiring _ _ _ _ _ _ _ _ (c .before .before .before .before .before .before .before .before .before .before .before .before .before .before .before .before .args .limit) (c .before .before .before .before .before .before .before .before .sweep-receipts .result) (c .before .before .before .before .before .before .before .before .before .before .before .before .before .before .before .before .pre) (c .before .before .before .before .before .before .before .before .sweep-receipts .ensures .1)
+
+add-result : tie.Need-add-result
+add-result c = omega (arith, c .before .before .before .before .before .before .before .before .before .before .before .before .before .sweep-receipts .ensures .0, c .before .before .before .before .sweep-escrows .ensures .0)
+
+same-length : tie.Need-same-length
+same-length c = search needs
+
+same-length-2 : tie.Need-same-length-2
+same-length-2 c = search needs
+
+same-length-3 : tie.Need-same-length-3
+same-length-3 c = search needs
+
+returns : tie.Need-returns
+returns c = swept-by _ _ _ _ _ _ _ _ _ _ _ _ _ (c .before .before .before .before .before .before .before .before .before .before .before .before .before .sweep-receipts .ensures .1) (c .before .before .before .before .sweep-escrows .ensures .1)
+
+pub sweep-spec : {M : Type 1} → statement M
+sweep-spec =
+    tie.close
+    (tie.spec
+    sweep-receipts-requires
+    sub-sweep-escrows
+    sweep-escrows-requires
+    add-result
+    same-length
+    same-length-2
+    same-length-3
+    returns)

@@ -1,0 +1,47 @@
+-- `sweeping::sweep_receipt` meets its contract: a due receipt is closed and counted, any other is passed over.
+use native.Mathlib.Omega.{arith}
+use Rattle.sweeping.proofs.Turns.{receipt-closed, receipt-passed}
+use borrow.Author.Needs.{needs}
+use Rattle.sweeping.proofs.sweep_receipt.Statement.{statement}
+use Rattle.sweeping.proofs.sweep_receipt.Tie as tie
+
+sub-row : tie.Need-sub-row
+sub-row c = search needs
+
+is-due-requires : tie.Need-is-due-requires
+is-due-requires c κs = search needs
+
+close-due-receipt-requires : tie.Need-close-due-receipt-requires
+close-due-receipt-requires c κs = search needs
+
+same-length : tie.Need-same-length
+same-length c = search needs
+
+same-length-2 : tie.Need-same-length-2
+same-length-2 c = search needs
+
+same-length-3 : tie.Need-same-length-3
+same-length-3 c = search needs
+
+returns : tie.Need-returns
+returns c = (omega arith, receipt-closed _ _ _ _ _ _ _ (c .before .before .before .before .before .before .before .before .before .before .before .is-due .ensures) _ _ _ (c .before .before .before .before .before .before .before .before .before .before .if1 .taken) (c .before .before .before .before .before .before .close-due-receipt .ensures))
+
+same-length-4 : tie.Need-same-length-4
+same-length-4 c = search needs
+
+returns-2 : tie.Need-returns-2
+returns-2 c = (omega arith, receipt-passed _ _ _ _ _ _ _ (c .before .is-due .ensures) (c .if1 .left))
+
+pub sweep-receipt-spec : {M : Type 1} → statement M
+sweep-receipt-spec =
+    tie.close
+    (tie.spec
+    sub-row
+    is-due-requires
+    close-due-receipt-requires
+    same-length
+    same-length-2
+    same-length-3
+    returns
+    same-length-4
+    returns-2)

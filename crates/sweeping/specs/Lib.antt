@@ -1,0 +1,2 @@
+-- What the sweep's contracts cite.
+pub mod Needs

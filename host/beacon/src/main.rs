@@ -1,0 +1,44 @@
+//! `beacon`: writes, explains and settles submission records.
+//!
+//! Bad input gets one line on standard error and a status that is not 0: 2 for a command that makes
+//! no sense, 1 for everything else.
+
+#![forbid(unsafe_code)]
+
+mod command;
+mod explain;
+mod files;
+mod problem;
+mod record;
+mod run;
+mod show;
+
+use std::env;
+use std::io::{self, Write};
+use std::process::ExitCode;
+
+use problem::Problem;
+
+fn main() -> ExitCode {
+    match work() {
+        Ok(code) => code,
+        Err(problem) => {
+            eprintln!("beacon: {problem}");
+            problem.code()
+        }
+    }
+}
+
+fn work() -> Result<ExitCode, Problem> {
+    let mut output = Vec::new();
+    let result = command::dispatch(env::args_os(), &mut output);
+    // What was found out before a problem is shown all the same.
+    let mut stdout = io::stdout().lock();
+    let written = stdout.write_all(&output).and_then(|()| stdout.flush());
+    match (result, written) {
+        // A reader such as `head` that has seen enough is no problem.
+        (Ok(code), Err(error)) if error.kind() == io::ErrorKind::BrokenPipe => Ok(code),
+        (Ok(_), Err(error)) => Err(Problem::io("cannot write to standard output", &error)),
+        (result, _) => result,
+    }
+}

@@ -1,0 +1,87 @@
+//! `bench [--quick] [--plot FILE]`: prints what a call of the core costs, as a table in Markdown,
+//! and draws how the cost grows.
+//!
+//! Everything in one table is measured in one run, in turns, and the least of many times is taken:
+//! the ratios say more than the times.
+
+#![forbid(unsafe_code)]
+
+mod fill;
+mod measure;
+mod plot;
+mod report;
+mod sqlite;
+mod stream;
+
+use std::env;
+use std::process::ExitCode;
+
+use milebeacon::Sizes;
+
+use fill::Ids;
+use measure::{at_size, Costs, Effort};
+
+fn main() -> ExitCode {
+    match work() {
+        Ok(()) => ExitCode::SUCCESS,
+        Err(line) => {
+            eprintln!("bench: {line}");
+            ExitCode::FAILURE
+        }
+    }
+}
+
+fn work() -> Result<(), String> {
+    let (mut effort, mut plot_path) = (Effort::FULL, None);
+    let mut words = env::args().skip(1);
+    while let Some(word) = words.next() {
+        match word.as_str() {
+            "--quick" => effort = Effort::QUICK,
+            "--plot" => plot_path = Some(words.next().ok_or("--plot needs a file")?),
+            _ => return Err(format!("{word:?} is neither --quick nor --plot")),
+        }
+    }
+
+    let named = [
+        ("program", Sizes::PROGRAM),
+        ("middle", scaled(4)),
+        ("full", Sizes::LARGEST),
+    ];
+    let mut rows = Vec::new();
+    for (name, sizes) in named {
+        let costs = at_size(sizes, Ids::InARow, effort);
+        let stores = sqlite::costs(sizes, effort).map_err(|error| error.to_string())?;
+        rows.push((name, sizes, costs, stores));
+    }
+    print!("{}", report::sizes(&rows));
+
+    let colliding = at_size(Sizes::LARGEST, Ids::Alike, effort);
+    print!("{}", report::alike(&rows[2].2, &colliding));
+
+    let growth: Vec<(Sizes, Costs)> = [64, 32, 16, 8, 4, 2, 1]
+        .into_iter()
+        .map(|part| (scaled(part), at_size(scaled(part), Ids::InARow, effort)))
+        .collect();
+    print!("{}", report::growth(&growth));
+    if let Some(path) = plot_path {
+        let drawing = plot::growth(&growth);
+        std::fs::write(&path, drawing).map_err(|error| format!("cannot write {path}: {error}"))?;
+    }
+    Ok(())
+}
+
+/// A part of the largest tables.
+fn scaled(part: usize) -> Sizes {
+    let Sizes {
+        wallets,
+        escrows,
+        receipts,
+        journal,
+    } = Sizes::LARGEST;
+    Sizes {
+        wallets: wallets / part,
+        escrows: escrows / part,
+        receipts: receipts / part,
+        journal: journal / part,
+    }
+}

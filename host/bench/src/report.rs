@@ -1,0 +1,112 @@
+//! The tables in Markdown.
+
+use std::fmt::Write as _;
+
+use milebeacon::Sizes;
+
+use crate::measure::Costs;
+use crate::sqlite::Stores;
+
+fn words(sizes: Sizes) -> usize {
+    8 + sizes.wallets * 6 + sizes.escrows * 8 + sizes.receipts * 14 + sizes.journal * 8
+}
+
+/// Times and ratios at the named sizes.
+pub fn sizes(rows: &[(&str, Sizes, Costs, Stores)]) -> String {
+    let mut text = String::from("| one call, in µs |");
+    for (name, sizes, ..) in rows {
+        let _ = write!(
+            text,
+            " {name} ({}/{}/{}/{}) |",
+            sizes.wallets, sizes.escrows, sizes.receipts, sizes.journal
+        );
+    }
+    text += "\n|---|";
+    text += &"---:|".repeat(rows.len());
+    let mut line = |name: &str, value: &dyn Fn(&Costs, &Stores) -> f64, digits: usize| {
+        let _ = write!(text, "\n| {name} |");
+        for (_, _, costs, stores) in rows {
+            let _ = write!(text, " {:.digits$} |", value(costs, stores));
+        }
+    };
+    line("one plain read of all words", &|c, _| c.read, 1);
+    line("core: is it sound", &|c, _| c.core_sound, 1);
+    line("core: submit", &|c, _| c.core_submit, 1);
+    line("second program: is it sound", &|c, _| c.second_sound, 1);
+    line("second program: submit", &|c, _| c.second_submit, 1);
+    line("SQLite in memory", &|_, s| s.memory, 1);
+    line("SQLite, WAL file, synchronous NORMAL", &|_, s| s.wal, 1);
+    line("SQLite, WAL file, synchronous FULL", &|_, s| s.wal_full, 1);
+    line(
+        "**core sound / plain read**",
+        &|c, _| c.core_sound / c.read,
+        2,
+    );
+    line(
+        "**core submit / plain read**",
+        &|c, _| c.core_submit / c.read,
+        2,
+    );
+    line(
+        "**core submit / second program**",
+        &|c, _| c.core_submit / c.second_submit,
+        2,
+    );
+    line(
+        "**core submit / SQLite in memory**",
+        &|c, s| c.core_submit / s.memory,
+        2,
+    );
+    line(
+        "**core submit / SQLite WAL, NORMAL**",
+        &|c, s| c.core_submit / s.wal,
+        2,
+    );
+    line(
+        "**core submit / SQLite WAL, FULL**",
+        &|c, s| c.core_submit / s.wal_full,
+        2,
+    );
+    text + "\n"
+}
+
+/// Whether ids that look alike make the core slower.
+pub fn alike(usual: &Costs, alike: &Costs) -> String {
+    format!(
+        "\n| full tables, one submit in µs | ids in a row | ids alike in 54 bits | ratio |\n\
+         |---|---:|---:|---:|\n| core | {:.1} | {:.1} | {:.2} |\n",
+        usual.core_submit,
+        alike.core_submit,
+        alike.core_submit / usual.core_submit
+    )
+}
+
+/// How the cost grows as tables double.
+pub fn growth(rows: &[(Sizes, Costs)]) -> String {
+    let mut text = String::from(
+        "\n| wallets/escrows/receipts/journal | words | plain read, µs | core submit, µs | \
+         over the half | second program, µs | over the half |\n|---|---:|---:|---:|---:|---:|---:|",
+    );
+    let mut before: Option<Costs> = None;
+    for (sizes, costs) in rows {
+        let over = |now: f64, of: fn(&Costs) -> f64| {
+            before.map_or_else(|| "-".to_owned(), |half| format!("{:.2}", now / of(&half)))
+        };
+        let _ = write!(
+            text,
+            "\n| {}/{}/{}/{} | {} | {:.1} | {:.1} | {} | {:.1} | {} |",
+            sizes.wallets,
+            sizes.escrows,
+            sizes.receipts,
+            sizes.journal,
+            words(*sizes),
+            costs.read,
+            costs.core_submit,
+            over(costs.core_submit, |c| c.core_submit),
+            costs.second_submit,
+            over(costs.second_submit, |c| c.second_submit),
+        );
+        before = Some(*costs);
+    }
+    text + "\n"
+}

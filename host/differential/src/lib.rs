@@ -1,0 +1,31 @@
+//! The proved core against an independent second program.
+//!
+//! Both are given the same tables and the same records, and everything is compared: the answer's
+//! number, its word, and every word of every table afterwards, written or not.
+//!
+//! - [`step`] and [`record`] make records: a [`Step`](step::Step) is a few small numbers, of which
+//! 0 asks for what would settle and the others for what lies at or beyond a limit of the rules.
+//! - [`start`] makes the tables to begin with, fresh or lent with a ledger in them, [`clauses`]
+//! breaks them in one clause at a time and [`damage`] anywhere.
+//! - [`twin`] does the calls and compares; a [`history`] is a start and steps. [`shrink`] makes a
+//! difference that it found small.
+//! - [`plan`] puts these together into a run of a given length from a given seed.
+
+#![forbid(unsafe_code)]
+#![warn(missing_docs)]
+
+pub mod clauses;
+pub mod codec;
+pub mod damage;
+pub mod dice;
+pub mod history;
+mod knobs;
+pub mod lookups;
+pub mod plan;
+pub mod record;
+pub mod shrink;
+pub mod start;
+pub mod step;
+pub mod tally;
+pub mod twin;
+mod view;

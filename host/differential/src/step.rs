@@ -1,0 +1,191 @@
+//! One step of a history: a few small numbers that, with the tables as they stand, make a record.
+//!
+//! A step does not hold a record but says how to make one, so that steps can be left out or made
+//! plainer and those that follow still mean something. In every knob 0 is the plain choice, one
+//! that would settle where it can; the others lie at a limit of the rules or one beyond. So a small
+//! example of a difference shows what matters in it: the knobs that are not 0.
+
+use milebeacon::Submission;
+
+use crate::dice::Dice;
+use crate::record::{damaged, encode};
+use crate::twin::World;
+use crate::view::View;
+
+/// The last time that the rules allow.
+pub const LAST_TIME: u64 = (1 << 48) - 1;
+/// The largest amount.
+pub const MOST_AMOUNT: u64 = 1_000_000_000_000_000;
+/// The largest granted total.
+pub const MOST_GRANTED: u64 = 1_000_000_000_000_000_000;
+
+/// One step.
+#[derive(Clone, Copy, Debug, Default, PartialEq, Eq)]
+pub struct Step {
+    /// 0 to 10: the operations 1 to 11. 11 submits the last record again, 12 does so with a new
+    /// clock.
+    pub op: u8,
+    /// How far the clock moves, or to which row's moment.
+    pub tick: u8,
+    /// Who signs.
+    pub signer: u8,
+    /// A new nonce or an old one.
+    pub nonce: u8,
+    /// When the record is issued and expires.
+    pub window: u8,
+    /// Whom or what it is about.
+    pub target: u8,
+    /// How much.
+    pub amount: u8,
+    /// Until when.
+    pub until: u8,
+    /// The escrow of a claim; a daily cap.
+    pub link: u8,
+    /// The flag bits.
+    pub flags: u8,
+    /// How the finished record is damaged.
+    pub damage: u8,
+    /// Which rows are meant, and small amounts.
+    pub pick: u16,
+}
+
+/// How many steps the knob of the clock has; the others have fewer than 16.
+const TICKS: u64 = 20;
+const KNOB: u64 = 16;
+
+impl Step {
+    /// A step by chance. `wild` out of 16 knobs are not plain.
+    pub fn roll(dice: &mut Dice, wild: u64) -> Step {
+        let often = [0, 1, 1, 2, 2, 2, 2, 5, 5, 5, 5, 6, 6];
+        let seldom = [3, 4, 7, 8, 8, 9, 10, 11, 12];
+        let op = if dice.once_in(3) {
+            dice.pick(&seldom)
+        } else {
+            dice.pick(&often)
+        };
+        let mut knob = |bound| {
+            if dice.below(16) < wild {
+                dice.below(bound) as u8
+            } else {
+                0
+            }
+        };
+        let mut step = Step {
+            op,
+            tick: knob(TICKS),
+            signer: knob(KNOB),
+            nonce: knob(KNOB),
+            window: knob(KNOB),
+            target: knob(KNOB),
+            amount: knob(KNOB),
+            until: knob(KNOB),
+            link: knob(KNOB),
+            flags: knob(KNOB),
+            damage: 0,
+            pick: 0,
+        };
+        // The clock moves in one step of three, and one record in thirty is damaged.
+        if step.tick == 0 && dice.once_in(3) {
+            step.tick = dice.below(TICKS) as u8;
+        }
+        if dice.once_in(30) {
+            step.damage = dice.below(KNOB) as u8;
+        }
+        // Half of the claims are linked, and some of those by or to somebody else.
+        if step.op == 5 && dice.once_in(2) {
+            step.link = 1;
+            step.signer = dice.pick(&[step.signer, step.signer, step.signer, 1]);
+            step.target = dice.pick(&[step.target, step.target, step.target, 6]);
+        }
+        step.pick = dice.word() as u16;
+        step
+    }
+
+    /// The bytes to submit. `last` is the record before it.
+    pub fn record(&self, world: &World, last: &[u8]) -> Vec<u8> {
+        let bytes = match self.op % 13 {
+            11 => last.to_vec(),
+            12 => {
+                let mut again = last.to_vec();
+                if let Some(now) = again.get_mut(4..12) {
+                    now.copy_from_slice(&View::new(world).clock().to_le_bytes());
+                }
+                again
+            }
+            _ => encode(&self.submission(world)).to_vec(),
+        };
+        damaged(bytes, self.damage, &mut Dice::new(self.pick()))
+    }
+
+    pub(crate) fn pick(&self) -> u64 {
+        u64::from(self.pick)
+    }
+
+    /// The fields; they may well be malformed.
+    pub fn submission(&self, world: &World) -> Submission {
+        let view = View::new(world);
+        let now = self.now(&view);
+        let op = self.op % 13 + 1;
+        if op == 9 {
+            return self.sweep(&view, now);
+        }
+        let (issued, expires) = self.window(now);
+        let escrow = view
+            .escrow(true, self.pick())
+            .or_else(|| view.escrow(false, self.pick()));
+        let receipt = view
+            .receipt(true, self.pick())
+            .or_else(|| view.receipt(false, self.pick()));
+        let link = if op == 6 { self.claim_link(&view) } else { 0 };
+        let linked = if link == 0 {
+            None
+        } else {
+            view.escrow(false, link.wrapping_sub(1))
+        };
+        let natural = match op {
+            4 | 5 => escrow.map(|escrow| escrow.from),
+            6 => linked
+                .map(|escrow| escrow.to)
+                .or_else(|| view.any_wallet(self.pick())),
+            7 | 8 => receipt.map(|receipt| receipt.requester),
+            2 | 3 => view.any_wallet(self.pick()),
+            _ => Some(1),
+        };
+        let signer = self.signer(&view, natural.unwrap_or(7));
+        let target = match op {
+            4 | 5 => self.row(escrow.map(|row| row.number), view.escrow_count()),
+            7 | 8 => self.row(receipt.map(|row| row.number), view.receipt_count()),
+            10 if view.system_frozen() && self.target < 8 => 0,
+            10 | 11 => self.party(&view, signer, view.any_wallet(self.pick())),
+            _ => self.party(&view, signer, linked.map(|row| row.from)),
+        };
+        let (signer, nonce) = self.nonce(&view, signer);
+        let until = match op {
+            3 => self.escrow_deadline(now),
+            6 => self.acceptance_deadline(now, issued, linked.map(|row| row.deadline)),
+            _ => self.unused(self.until),
+        };
+        Submission {
+            op,
+            flags: self.flag_bits(&view, op, target),
+            now,
+            signer,
+            nonce,
+            issued,
+            expires,
+            target,
+            amount: self.amount(&view, op, signer, now),
+            until,
+            link: match op {
+                6 => link,
+                11 => self.cap(self.link),
+                _ => self.unused(self.link),
+            },
+            hash: if op == 6 {
+                [self.pick(), 2, 3, u64::MAX]
+            } else {
+                [0; 4]
+            },
+        }
+    }
+}

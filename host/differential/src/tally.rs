@@ -1,0 +1,134 @@
+//! Which answers were reached, by operation.
+
+use std::fmt;
+
+/// The highest answer number.
+pub const LAST_ANSWER: usize = 40;
+const OPERATIONS: usize = 11;
+
+/// Counts by operation and answer. Row 0 is for records whose operation byte is none.
+#[derive(Clone, Debug)]
+pub struct Tally {
+    counts: [[u64; LAST_ANSWER + 1]; OPERATIONS + 1],
+    submissions: u64,
+    /// Other calls that were compared: starts, reads, writes, lookups, statuses.
+    pub other_calls: u64,
+}
+
+impl Default for Tally {
+    fn default() -> Tally {
+        Tally {
+            counts: [[0; LAST_ANSWER + 1]; OPERATIONS + 1],
+            submissions: 0,
+            other_calls: 0,
+        }
+    }
+}
+
+/// The operations that an answer is given for, as the rules list them.
+fn operations_of(answer: usize) -> &'static [usize] {
+    match answer {
+        0 | 4 => &[1, 2, 3, 4, 5, 6, 7, 8, 9, 10, 11],
+        1 | 2 | 3 => &[0, 1, 2, 3, 4, 5, 6, 7, 8, 9, 10, 11],
+        5 => &[1, 2, 3, 4, 5, 6, 7, 8, 9],
+        6 | 8 | 9 | 10 | 11 | 40 => &[1, 2, 3, 4, 5, 6, 7, 8, 10, 11],
+        7 => &[1, 10, 11],
+        12 => &[1, 2, 3, 9, 11],
+        13 | 14 | 17 | 18 | 19 => &[2, 3],
+        15 => &[1, 2, 3, 6],
+        16 => &[10, 11],
+        20 | 21 | 38 => &[3],
+        22 | 23 | 24 | 25 | 26 | 30 | 31 | 39 => &[6],
+        27 | 29 => &[4, 5, 6],
+        28 => &[4, 5],
+        32 | 33 | 34 => &[7, 8],
+        35 => &[8],
+        36 => &[1],
+        37 => &[1, 2, 3],
+        _ => &[],
+    }
+}
+
+impl Tally {
+    /// Counts one submission.
+    pub fn count(&mut self, record: &[u8], answer: u64) {
+        let operation = record.get(2).map_or(0, |&byte| usize::from(byte));
+        let row = if operation <= OPERATIONS {
+            operation
+        } else {
+            0
+        };
+        self.counts[row][answer as usize] += 1;
+        self.submissions += 1;
+    }
+
+    /// How many submissions were counted.
+    pub fn submissions(&self) -> u64 {
+        self.submissions
+    }
+
+    /// How often this answer was given.
+    pub fn of_answer(&self, answer: usize) -> u64 {
+        self.counts.iter().map(|row| row[answer]).sum()
+    }
+
+    /// The pairs of an operation and an answer that the rules allow and that were not reached.
+    pub fn missing(&self) -> Vec<(usize, usize)> {
+        let allowed = (0..=LAST_ANSWER)
+            .flat_map(|answer| operations_of(answer).iter().map(move |&op| (op, answer)));
+        allowed
+            .filter(|&(op, answer)| self.counts[op][answer] == 0)
+            .collect()
+    }
+
+    /// The pairs that were reached though the rules do not allow them.
+    pub fn forbidden(&self) -> Vec<(usize, usize)> {
+        let all = (0..=LAST_ANSWER).flat_map(|answer| (0..=OPERATIONS).map(move |op| (op, answer)));
+        all.filter(|&(op, answer)| {
+            self.counts[op][answer] != 0 && !operations_of(answer).contains(&op)
+        })
+        .collect()
+    }
+
+    /// Adds another tally to this one.
+    pub fn add(&mut self, other: &Tally) {
+        for (row, more) in self.counts.iter_mut().zip(&other.counts) {
+            for (count, extra) in row.iter_mut().zip(more) {
+                *count += extra;
+            }
+        }
+        self.submissions += other.submissions;
+        self.other_calls += other.other_calls;
+    }
+}
+
+impl fmt::Display for Tally {
+    fn fmt(&self, f: &mut fmt::Formatter<'_>) -> fmt::Result {
+        writeln!(
+            f,
+            "{} submissions, {} other calls, no difference",
+            self.submissions, self.other_calls
+        )?;
+        writeln!(f, "answer: times given (by operation)")?;
+        for answer in 0..=LAST_ANSWER {
+            write!(f, "{answer:>4}: {:>9} (", self.of_answer(answer))?;
+            let mut comma = "";
+            for (operation, row) in self.counts.iter().enumerate() {
+                if row[answer] != 0 {
+                    write!(f, "{comma}{operation}: {}", row[answer])?;
+                    comma = ", ";
+                }
+            }
+            writeln!(f, ")")?;
+        }
+        let missing = self.missing();
+        if missing.is_empty() {
+            write!(
+                f,
+                "every operation got every answer that the rules list for it"
+            )
+        } else {
+            write!(f, "not reached (operation, answer): {missing:?}")
+        }
+    }
+}

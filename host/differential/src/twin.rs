@@ -1,0 +1,143 @@
+//! Both programs side by side on the same tables.
+
+use std::fmt;
+use std::panic::{catch_unwind, AssertUnwindSafe};
+
+use milebeacon::{ffi, Tables};
+
+use crate::tally::Tally;
+
+/// Five tables that a test owns.
+pub type World = Tables<Vec<u64>>;
+
+/// The names of the five tables, in order.
+pub const TABLE_NAMES: [&str; 5] = ["header", "wallets", "escrows", "receipts", "journal"];
+
+/// The words of one row of each table.
+pub const ROW_WORDS: [usize; 5] = [8, 6, 8, 14, 8];
+
+/// What the two programs did not agree on.
+#[derive(Clone, Debug, PartialEq, Eq)]
+pub struct Difference(pub String);
+
+impl fmt::Display for Difference {
+    fn fmt(&self, f: &mut fmt::Formatter<'_>) -> fmt::Result {
+        f.write_str(&self.0)
+    }
+}
+
+/// The same or a difference.
+pub fn same<T: PartialEq + fmt::Debug>(what: &str, core: T, second: T) -> Result<T, Difference> {
+    if core == second {
+        Ok(core)
+    } else {
+        Err(Difference(format!(
+            "{what}: the core has {core:?}, the second program {second:?}"
+        )))
+    }
+}
+
+/// The five tables, one after another.
+pub fn slices(world: &World) -> [&[u64]; 5] {
+    [
+        &world.header,
+        &world.wallets,
+        &world.escrows,
+        &world.receipts,
+        &world.journal,
+    ]
+}
+
+/// The tables as the second program is lent them.
+pub fn lent(world: &mut World) -> second::Tables<'_> {
+    second::Tables {
+        header: &mut world.header,
+        wallets: &mut world.wallets,
+        escrows: &mut world.escrows,
+        receipts: &mut world.receipts,
+        journal: &mut world.journal,
+    }
+}
+
+/// The first word in which two worlds differ.
+pub fn first_difference(core: &World, second: &World) -> Option<Difference> {
+    let tables = slices(core)
+        .into_iter()
+        .zip(slices(second))
+        .zip(TABLE_NAMES)
+        .zip(ROW_WORDS);
+    for (((one, other), name), words) in tables {
+        if one == other {
+            continue;
+        }
+        let place = one
+            .iter()
+            .zip(other)
+            .position(|(a, b)| a != b)
+            .unwrap_or(one.len());
+        return Some(Difference(format!(
+            "{name}, row {}, word {}: the core leaves {:?}, the second program {:?}",
+            place / words + 1,
+            place % words + 1,
+            one.get(place),
+            other.get(place)
+        )));
+    }
+    None
+}
+
+/// A world twice, once for each program.
+#[derive(Clone, Debug)]
+pub struct Twin {
+    core: World,
+    second: World,
+}
+
+impl Twin {
+    /// Both begin with this world.
+    pub fn new(world: World) -> Twin {
+        Twin {
+            second: world.clone(),
+            core: world,
+        }
+    }
+
+    /// The world; both are equal whenever no difference was found.
+    pub fn world(&self) -> &World {
+        &self.core
+    }
+
+    /// Submits to both, and compares number, word and every word of the tables.
+    pub fn submit(&mut self, record: &[u8], tally: &mut Tally) -> Result<(u64, u64), Difference> {
+        let lent_record = record.to_vec();
+        let answer = ffi::submit(self.core.as_mut(), &lent_record);
+        if lent_record != record {
+            return Err(Difference("the core has changed the record".to_owned()));
+        }
+        let second = guarded(|| second::submit(&mut lent(&mut self.second), record))?;
+        let answer = same("answer and word", (answer.number, answer.word), second)?;
+        self.compare()?;
+        tally.count(record, answer.0);
+        Ok(answer)
+    }
+
+    /// Starts both afresh, and compares.
+    pub fn fresh(&mut self, tally: &mut Tally) -> Result<u64, Difference> {
+        let core = ffi::fresh(self.core.as_mut());
+        let second = guarded(|| second::fresh(&mut lent(&mut self.second)))?;
+        let answer = same("answer to a fresh start", core, second)?;
+        self.compare()?;
+        tally.other_calls += 1;
+        Ok(answer)
+    }
+
+    fn compare(&self) -> Result<(), Difference> {
+        first_difference(&self.core, &self.second).map_or(Ok(()), Err)
+    }
+}
+
+/// A panic of the second program is a difference too: the core never stops short.
+fn guarded<T>(call: impl FnOnce() -> T) -> Result<T, Difference> {
+    catch_unwind(AssertUnwindSafe(call))
+        .map_err(|_| Difference("the second program panics".to_owned()))
+}

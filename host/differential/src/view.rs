@@ -1,0 +1,169 @@
+//! What a step sees of the tables that it is taken on.
+
+use milebeacon::{EscrowState, Ledger, ReceiptState};
+
+use crate::twin::World;
+
+/// A ledger to be read only. Wallets are found here by a search of its own, not by the core's.
+pub struct View<'a> {
+    ledger: Ledger<&'a [u64]>,
+    wallet_ids: Vec<u64>,
+}
+
+/// The named words of an escrow that steps use.
+#[derive(Clone, Copy)]
+pub struct EscrowSeen {
+    pub number: u64,
+    pub from: u64,
+    pub to: u64,
+    pub deadline: u64,
+}
+
+/// The named words of a receipt that steps use.
+#[derive(Clone, Copy)]
+pub struct ReceiptSeen {
+    pub number: u64,
+    pub requester: u64,
+    pub deadline: u64,
+}
+
+/// The named words of a journal row that steps use.
+#[derive(Clone, Copy)]
+pub struct EntrySeen {
+    pub signer: u64,
+    pub nonce: u64,
+    pub settled_at: u64,
+}
+
+/// A time; those of damaged rows are taken for the first that is none.
+fn seen(time: u64) -> u64 {
+    time.min(1 << 48)
+}
+
+/// The element at `pick`, counted around.
+fn around<T: Copy>(list: &[T], pick: u64) -> Option<T> {
+    if list.is_empty() {
+        None
+    } else {
+        Some(list[(pick % list.len() as u64) as usize])
+    }
+}
+
+impl<'a> View<'a> {
+    pub fn new(world: &'a World) -> View<'a> {
+        let ledger = Ledger::over(world.as_ref());
+        let wallet_ids = ledger.wallets().map(|wallet| wallet.id()).collect();
+        View { ledger, wallet_ids }
+    }
+
+    pub fn clock(&self) -> u64 {
+        seen(self.ledger.last_clock())
+    }
+
+    pub fn granted(&self) -> u64 {
+        self.ledger.granted_total()
+    }
+
+    pub fn system_frozen(&self) -> bool {
+        self.ledger.is_frozen()
+    }
+
+    pub fn journal_count(&self) -> u64 {
+        self.ledger.tables().header.get(7).copied().unwrap_or(0)
+    }
+
+    pub fn escrow_count(&self) -> u64 {
+        self.ledger.tables().header.get(5).copied().unwrap_or(0)
+    }
+
+    pub fn receipt_count(&self) -> u64 {
+        self.ledger.tables().header.get(6).copied().unwrap_or(0)
+    }
+
+    pub fn is_wallet(&self, id: u64) -> bool {
+        self.wallet_ids.contains(&id)
+    }
+
+    pub fn any_wallet(&self, pick: u64) -> Option<u64> {
+        around(&self.wallet_ids, pick)
+    }
+
+    /// Balance, cap per transaction, daily cap.
+    pub fn means(&self, id: u64) -> Option<(u64, u64, u64)> {
+        let wallet = self.ledger.wallets().find(|wallet| wallet.id() == id)?;
+        Some((
+            wallet.balance(),
+            wallet.per_transaction_cap(),
+            wallet.daily_cap(),
+        ))
+    }
+
+    pub fn wallet_frozen(&self, id: u64) -> bool {
+        self.ledger
+            .wallets()
+            .any(|wallet| wallet.id() == id && wallet.is_frozen())
+    }
+
+    /// What the signer's transfers of the last day come to.
+    pub fn transferred(&self, signer: u64, now: u64) -> u64 {
+        self.ledger
+            .journal()
+            .filter(|row| row.signer() == signer && row.operation_word() == 2)
+            .filter(|row| row.settled_at().saturating_add(86_400_000) >= now)
+            .fold(0, |sum, row| row.amount().saturating_add(sum))
+    }
+
+    pub fn escrow(&self, open: bool, pick: u64) -> Option<EscrowSeen> {
+        let rows: Vec<EscrowSeen> = (1..)
+            .zip(self.ledger.escrows())
+            .filter(|(_, row)| !open || row.state() == Some(EscrowState::Open))
+            .map(|(number, row)| EscrowSeen {
+                number,
+                from: row.from(),
+                to: row.to(),
+                deadline: seen(row.deadline()),
+            })
+            .collect();
+        around(&rows, pick)
+    }
+
+    pub fn receipt(&self, pending: bool, pick: u64) -> Option<ReceiptSeen> {
+        let rows: Vec<ReceiptSeen> = (1..)
+            .zip(self.ledger.receipts())
+            .filter(|(_, row)| !pending || row.state() == Some(ReceiptState::Pending))
+            .map(|(number, row)| ReceiptSeen {
+                number,
+                requester: row.requester(),
+                deadline: seen(row.acceptance_deadline()),
+            })
+            .collect();
+        around(&rows, pick)
+    }
+
+    pub fn entry(&self, pick: u64) -> Option<EntrySeen> {
+        let rows: Vec<EntrySeen> = self
+            .ledger
+            .journal()
+            .map(|row| EntrySeen {
+                signer: row.signer(),
+                nonce: row.nonce(),
+                settled_at: seen(row.settled_at()),
+            })
+            .collect();
+        around(&rows, pick)
+    }
+
+    /// The rows that a sweep could close.
+    pub fn due(&self, now: u64) -> u64 {
+        let receipts = self
+            .ledger
+            .receipts()
+            .filter(|row| row.state() == Some(ReceiptState::Pending))
+            .filter(|row| row.acceptance_deadline() < now);
+        let escrows = self
+            .ledger
+            .escrows()
+            .filter(|row| row.state() == Some(EscrowState::Open) && row.is_stale(now));
+        (receipts.count() + escrows.count()) as u64
+    }
+}

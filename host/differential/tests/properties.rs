@@ -1,0 +1,177 @@
+//! Properties over inputs by proptest, which makes a failing input small. The cases are seeded:
+//! `PROPTEST_CASES` asks for more of them.
+
+use differential::codec;
+use differential::dice::Dice;
+use differential::history::{Begin, History};
+use differential::lookups;
+use differential::record::encode;
+use differential::step::Step;
+use differential::tally::Tally;
+use differential::twin::{Difference, Twin, World};
+use milebeacon::{Sizes, Submission};
+use proptest::collection::vec;
+use proptest::prelude::*;
+use proptest::test_runner::{Config, RngAlgorithm, TestCaseError, TestError, TestRng, TestRunner};
+
+/// Runs seeded cases, and panics with the smallest input that was found to fail.
+fn check<S: Strategy>(strategy: S, property: impl Fn(S::Value) -> Result<(), TestCaseError>) {
+    let config = Config {
+        failure_persistence: None,
+        ..Config::default()
+    };
+    let rng = TestRng::deterministic_rng(RngAlgorithm::ChaCha);
+    let mut runner = TestRunner::new_with_rng(config, rng);
+    match runner.run(&strategy, property) {
+        Ok(()) => {}
+        Err(TestError::Fail(reason, smallest)) => panic!("{reason}\nsmallest input: {smallest:#?}"),
+        Err(TestError::Abort(reason)) => panic!("{reason}"),
+    }
+}
+
+fn failed(difference: Difference) -> TestCaseError {
+    TestCaseError::fail(difference.0)
+}
+
+/// Mostly the plain choice.
+fn knob() -> impl Strategy<Value = u8> {
+    prop_oneof![5 => Just(0), 1 => 0..20u8]
+}
+
+fn step() -> impl Strategy<Value = Step> {
+    let what = (
+        0..13u8,
+        any::<u16>(),
+        prop_oneof![20 => Just(0), 1 => 0..16u8],
+    );
+    let who = (knob(), knob(), knob(), knob());
+    let how = (knob(), knob(), knob(), knob(), knob());
+    (what, who, how).prop_map(|((op, pick, damage), who, how)| Step {
+        op,
+        tick: who.0,
+        signer: who.1,
+        nonce: who.2,
+        window: who.3,
+        target: how.0,
+        amount: how.1,
+        until: how.2,
+        link: how.3,
+        flags: how.4,
+        damage,
+        pick,
+    })
+}
+
+fn history() -> impl Strategy<Value = History> {
+    let begin = prop_oneof![
+        Just(Begin::Fresh),
+        Just(Begin::Lent),
+        Just(Begin::NearlyFull)
+    ];
+    let sizes = (1..8usize, 1..8usize, 1..8usize, 1..40usize);
+    (begin, sizes, any::<u64>(), vec(step(), 0..60)).prop_map(
+        |(begin, (wallets, escrows, receipts, journal), seed, steps)| {
+            let sizes = Sizes {
+                wallets,
+                escrows,
+                receipts,
+                journal,
+            };
+            History {
+                begin,
+                sizes,
+                seed,
+                steps,
+            }
+        },
+    )
+}
+
+#[test]
+fn histories() {
+    check(history(), |history| {
+        let played = history.play(&mut Tally::default());
+        played.map(drop).map_err(|found| {
+            TestCaseError::fail(format!(
+                "after step {}: {}",
+                found.step + 1,
+                found.difference
+            ))
+        })
+    });
+}
+
+/// Words that are often small or at a limit.
+fn word() -> impl Strategy<Value = u64> {
+    prop_oneof![
+        3 => 0..6u64,
+        2 => any::<u64>().prop_map(|seed| Dice::new(seed).edge()),
+        1 => any::<u64>(),
+    ]
+}
+
+/// Tables of any lengths and words, of which many have a header that looks right.
+fn tables() -> impl Strategy<Value = World> {
+    let header = prop_oneof![
+        3 => (0..3u64, word(), word(), 0..4u64, 0..4u64, 0..4u64, 0..4u64).prop_map(
+            |(frozen, clock, granted, a, b, c, d)| vec![1, frozen, clock, granted, a, b, c, d]
+        ),
+        1 => vec(word(), 0..11),
+    ];
+    let table = |words: usize| {
+        prop_oneof![
+            4 => (1..4usize).prop_flat_map(move |rows| vec(word(), rows * words)),
+            1 => vec(word(), 0..4 * words),
+        ]
+    };
+    (header, table(6), table(8), table(14), table(8)).prop_map(
+        |(header, wallets, escrows, receipts, journal)| World {
+            header,
+            wallets,
+            escrows,
+            receipts,
+            journal,
+        },
+    )
+}
+
+fn fields() -> impl Strategy<Value = Submission> {
+    any::<u64>().prop_map(|seed| codec::fields(&mut Dice::new(seed)))
+}
+
+#[test]
+fn any_tables_and_any_records() {
+    check((tables(), fields()), |(world, fields)| {
+        let tally = &mut Tally::default();
+        let mut twin = Twin::new(world);
+        lookups::all(twin.world(), &mut Dice::new(fields.nonce), tally).map_err(failed)?;
+        twin.submit(&encode(&fields), tally).map_err(failed)?;
+        twin.fresh(tally).map_err(failed)?;
+        twin.submit(&encode(&fields), tally)
+            .map(drop)
+            .map_err(failed)
+    });
+}
+
+#[test]
+fn any_bytes() {
+    let bytes = vec(any::<u8>(), 0..120);
+    let marked = vec(any::<u8>(), 106).prop_map(|rest| [&[0xA7, 0x3C][..], &rest].concat());
+    check(prop_oneof![bytes, marked], |record| {
+        codec::read(&record, &mut Tally::default())
+            .map(drop)
+            .map_err(failed)
+    });
+}
+
+#[test]
+fn any_fields() {
+    check((fields(), 0..220usize), |(fields, length)| {
+        let tally = &mut Tally::default();
+        codec::write(&fields, &mut vec![0x55; length], tally).map_err(failed)?;
+        codec::write(&fields, &mut [0x55; 108], tally).map_err(failed)?;
+        codec::read(&encode(&fields), tally)
+            .map(drop)
+            .map_err(failed)
+    });
+}

@@ -1,0 +1,60 @@
+//! What is found in a long history is shown in a short one.
+
+use differential::dice::Dice;
+use differential::history::{Begin, Found, History};
+use differential::shrink::shrink_by;
+use differential::tally::Tally;
+use differential::twin::{Difference, Twin};
+use milebeacon::Sizes;
+
+/// Finds the first step that is answered by this number.
+fn answered(history: &History, number: u64) -> Option<Found> {
+    let tally = &mut Tally::default();
+    let mut twin = Twin::new(history.world());
+    twin.fresh(tally).ok()?;
+    let mut last = Vec::new();
+    for (step, taken) in history.steps.iter().enumerate() {
+        last = taken.record(twin.world(), &last);
+        if twin.submit(&last, tally).ok()?.0 == number {
+            let difference = Difference(format!("answer {number}"));
+            return Some(Found { step, difference });
+        }
+    }
+    None
+}
+
+/// A long history in which the answer is given, and the same made short.
+fn smallest(number: u64) -> (usize, History) {
+    let test = |history: &History| answered(history, number);
+    for seed in 0.. {
+        let history = History::of(Begin::Fresh, Sizes::PROGRAM, &mut Dice::new(seed), 300);
+        if let Some(found) = test(&history) {
+            let length = found.step + 1;
+            return (length, shrink_by(&history, found, &test).history);
+        }
+    }
+    unreachable!("there is always another seed")
+}
+
+#[test]
+fn a_closed_escrow_is_found_closed_in_a_few_steps() {
+    // grant, open, claim, and whatever lets the deadline pass or closes the escrow
+    let (length, small) = smallest(29);
+    assert!(small.steps.len() <= 4, "{length} steps became {small:#?}");
+}
+
+#[test]
+fn a_deadline_after_the_escrows_takes_three_steps() {
+    // grant, open, claim
+    let (length, small) = smallest(31);
+    assert!(small.steps.len() <= 3, "{length} steps became {small:#?}");
+    let odd = small
+        .steps
+        .iter()
+        .flat_map(|step| [step.signer, step.nonce, step.damage, step.flags]);
+    assert_eq!(
+        odd.sum::<u8>(),
+        0,
+        "knobs that do not matter are plain: {small:#?}"
+    );
+}

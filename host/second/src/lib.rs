@@ -1,0 +1,64 @@
+//! An independent second settlement core, written from the document
+//! "Exact rules of the settlement core" alone. Doc comments quote it.
+//!
+//! The lent tables are decoded into plain structs, the work is done on those,
+//! and only after settling are they encoded back into the lent slices.
+
+#![forbid(unsafe_code)]
+
+mod lookups;
+mod record;
+mod refusals;
+mod rows;
+mod run;
+mod settle;
+mod sound;
+mod status;
+mod tables;
+
+pub use lookups::{escrow_row, receipt_row, wallet_row};
+pub use record::{read, write, Submission};
+pub use run::run;
+pub use status::status;
+pub use tables::{fresh, Tables};
+
+/// "Units are ... milliseconds"; times are "at most 2^48 − 1".
+const LAST_TIME: u64 = (1 << 48) - 1;
+
+/// "an amount of 1 to 10^15".
+const MOST_AMOUNT: u64 = 1_000_000_000_000_000;
+
+/// "the granted total, which is at most 10^18".
+const MOST_GRANTED: u64 = 1_000_000_000_000_000_000;
+
+/// "The answer is the lowest number whose condition holds; if none holds, 0.
+/// An answer is a number and a word; a refusal's word is 0 and no lent word
+/// or byte changes."
+pub fn submit(tables: &mut Tables<'_>, record: &[u8]) -> (u64, u64) {
+    // 1, bad_table: "a table's slice has a wrong length".
+    if !tables::lengths_right(tables) {
+        return (1, 0);
+    }
+    // 2, ledger_damaged: "not sound".
+    let mut ledger = match sound::sound_ledger(tables) {
+        Some(ledger) => ledger,
+        None => return (2, 0),
+    };
+    // 3, malformed_record.
+    let (operation, submission) = match record::parse(record) {
+        Some(well_formed) => well_formed,
+        None => return (3, 0),
+    };
+    // 4 to 40.
+    if let Some(number) = refusals::refusal(&ledger, operation, &submission) {
+        return (number, 0);
+    }
+    let word = settle::settle(&mut ledger, operation, &submission);
+    tables::encode(&ledger, tables);
+    (0, word)
+}
+
+/// "A ledger is sound if: ..."; never of a table with a wrong length.
+pub fn is_sound(tables: &Tables<'_>) -> bool {
+    tables::lengths_right(tables) && sound::sound_ledger(tables).is_some()
+}

@@ -1,0 +1,15 @@
+//! "Each answer has a status, for numbers 0 to 40 in order".
+
+const STATUSES: [u64; 41] = [
+    200, 500, 500, 400, 409, 503, 400, 403, 400, 400, 400, 409, 400, 404, 403, 400, 404, 402, 400,
+    429, 400, 400, 404, 404, 400, 400, 400, 404, 403, 409, 400, 400, 404, 403, 409, 400, 409, 507,
+    507, 507, 507,
+];
+
+/// "Any other number has status 500."
+pub fn status(number: u64) -> u64 {
+    usize::try_from(number)
+        .ok()
+        .and_then(|index| STATUSES.get(index).copied())
+        .unwrap_or(500)
+}

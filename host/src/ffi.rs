@@ -1,0 +1,193 @@
+//! The archive's entry points as they are, numbers in and numbers out, and the only `unsafe` code
+//! of this crate. The functions here are safe; the rest of the crate gives names to the numbers.
+//!
+//! A slice crosses as two arguments, its pointer and then its number of elements; structs cross by
+//! value. The declarations are the shapes that the archive exports. Each call is total: the
+//! archive's contracts have no precondition, so any slices and any words may be passed.
+
+#![allow(unsafe_code)]
+
+use crate::numbers::{EscrowNumber, ReceiptNumber};
+use crate::submission::Submission;
+use crate::tables::Tables;
+
+/// What `milebeacon_submit` answers.
+#[repr(C)]
+#[derive(Clone, Copy, Debug, PartialEq, Eq)]
+pub struct Answer {
+    /// 0 if settled, else the refusal's number.
+    pub number: u64,
+    /// The answer word; 0 for a refusal.
+    pub word: u64,
+}
+
+/// What `milebeacon_read` answers.
+#[repr(C)]
+#[derive(Clone, Copy, Debug, PartialEq, Eq)]
+pub struct Read {
+    /// 0, or 3 for a malformed record.
+    pub number: u64,
+    /// The fields; all 0 for a malformed record.
+    pub submission: Submission,
+}
+
+// Two bytes, six of padding, and thirteen words, as the archive has them.
+const _: () = assert!(std::mem::size_of::<Submission>() == 112);
+const _: () = assert!(std::mem::size_of::<Read>() == 120);
+
+extern "C" {
+    fn milebeacon_submit(
+        header: *mut u64,
+        header_len: usize,
+        wallets: *mut u64,
+        wallets_len: usize,
+        escrows: *mut u64,
+        escrows_len: usize,
+        receipts: *mut u64,
+        receipts_len: usize,
+        journal: *mut u64,
+        journal_len: usize,
+        record: *const u8,
+        record_len: usize,
+    ) -> Answer;
+    fn milebeacon_fresh(
+        header: *mut u64,
+        header_len: usize,
+        wallets: *mut u64,
+        wallets_len: usize,
+        escrows: *mut u64,
+        escrows_len: usize,
+        receipts: *mut u64,
+        receipts_len: usize,
+        journal: *mut u64,
+        journal_len: usize,
+    ) -> u64;
+    fn milebeacon_read(record: *const u8, record_len: usize) -> Read;
+    fn milebeacon_write(submission: Submission, out: *mut u8, out_len: usize) -> u64;
+    fn milebeacon_status(number: u64) -> u64;
+    fn milebeacon_wallet_row(
+        header: *const u64,
+        header_len: usize,
+        wallets: *const u64,
+        wallets_len: usize,
+        id: u64,
+    ) -> u64;
+    fn milebeacon_escrow_place(
+        header: *const u64,
+        header_len: usize,
+        escrows: *const u64,
+        escrows_len: usize,
+        number: EscrowNumber,
+    ) -> usize;
+    fn milebeacon_receipt_place(
+        header: *const u64,
+        header_len: usize,
+        receipts: *const u64,
+        receipts_len: usize,
+        number: ReceiptNumber,
+    ) -> usize;
+}
+
+/// Settles the record on the lent tables, or refuses it and changes nothing.
+pub fn submit(lent: Tables<&mut [u64]>, record: &[u8]) -> Answer {
+    // SAFETY: each pointer and count are those of a live slice. The five tables are borrowed
+    // mutably, so none overlaps another or the record; the archive reads and writes within them
+    // only, and keeps none of them.
+    unsafe {
+        milebeacon_submit(
+            lent.header.as_mut_ptr(),
+            lent.header.len(),
+            lent.wallets.as_mut_ptr(),
+            lent.wallets.len(),
+            lent.escrows.as_mut_ptr(),
+            lent.escrows.len(),
+            lent.receipts.as_mut_ptr(),
+            lent.receipts.len(),
+            lent.journal.as_mut_ptr(),
+            lent.journal.len(),
+            record.as_ptr(),
+            record.len(),
+        )
+    }
+}
+
+/// Starts the lent tables afresh: 0, or 1 for a wrong length.
+pub fn fresh(lent: Tables<&mut [u64]>) -> u64 {
+    // SAFETY: as for `submit`; there is no record.
+    unsafe {
+        milebeacon_fresh(
+            lent.header.as_mut_ptr(),
+            lent.header.len(),
+            lent.wallets.as_mut_ptr(),
+            lent.wallets.len(),
+            lent.escrows.as_mut_ptr(),
+            lent.escrows.len(),
+            lent.receipts.as_mut_ptr(),
+            lent.receipts.len(),
+            lent.journal.as_mut_ptr(),
+            lent.journal.len(),
+        )
+    }
+}
+
+/// The fields of a record.
+pub fn read(record: &[u8]) -> Read {
+    // SAFETY: the pointer and count are those of a live slice, which is only read. Every value of
+    // the returned struct is a number.
+    unsafe { milebeacon_read(record.as_ptr(), record.len()) }
+}
+
+/// Writes the record of these fields: 0, or 3 and `out` stays.
+pub fn write(submission: Submission, out: &mut [u8]) -> u64 {
+    // SAFETY: the pointer and count are those of a live slice that is borrowed mutably; the archive
+    // writes within it only.
+    unsafe { milebeacon_write(submission, out.as_mut_ptr(), out.len()) }
+}
+
+/// The status of an answer's number.
+pub fn status(number: u64) -> u64 {
+    // SAFETY: a number in, a number out.
+    unsafe { milebeacon_status(number) }
+}
+
+/// The number of the first wallet row with this id, or 0.
+pub fn wallet_row(header: &[u64], wallets: &[u64], id: u64) -> u64 {
+    // SAFETY: each pointer and count are those of a live slice, which is only read.
+    unsafe {
+        milebeacon_wallet_row(
+            header.as_ptr(),
+            header.len(),
+            wallets.as_ptr(),
+            wallets.len(),
+            id,
+        )
+    }
+}
+
+/// Where the escrow's row starts in the table, in words, or the table's length if there is none.
+pub fn escrow_place(header: &[u64], escrows: &[u64], number: EscrowNumber) -> usize {
+    // SAFETY: each pointer and count are those of a live slice, which is only read.
+    unsafe {
+        milebeacon_escrow_place(
+            header.as_ptr(),
+            header.len(),
+            escrows.as_ptr(),
+            escrows.len(),
+            number,
+        )
+    }
+}
+
+/// Where the receipt's row starts in the table, in words, or the table's length if there is none.
+pub fn receipt_place(header: &[u64], receipts: &[u64], number: ReceiptNumber) -> usize {
+    // SAFETY: each pointer and count are those of a live slice, which is only read.
+    unsafe {
+        milebeacon_receipt_place(
+            header.as_ptr(),
+            header.len(),
+            receipts.as_ptr(),
+            receipts.len(),
+            number,
+        )
+    }
+}

@@ -1,0 +1,70 @@
+//! The eleven operations.
+
+use std::fmt;
+
+macro_rules! operations {
+    ($($number:literal $variant:ident $name:literal $doc:literal;)*) => {
+        /// What a submission asks for.
+        #[non_exhaustive]
+        #[derive(Clone, Copy, Debug, PartialEq, Eq, PartialOrd, Ord, Hash)]
+        pub enum Operation {
+            $(
+                #[doc = $doc]
+                $variant = $number,
+            )*
+        }
+
+        impl Operation {
+            /// Every operation, in the order of their numbers.
+            pub const ALL: &'static [Operation] = &[$(Operation::$variant),*];
+
+            /// The operation with this number.
+            pub fn from_number(number: u8) -> Option<Operation> {
+                match number {
+                    $($number => Some(Operation::$variant),)*
+                    _ => None,
+                }
+            }
+
+            /// Its name, as `open`.
+            pub fn name(self) -> &'static str {
+                match self {
+                    $(Operation::$variant => $name,)*
+                }
+            }
+        }
+    };
+}
+
+operations! {
+    1 Grant "grant" "An admin makes new credits and gives them to a wallet.";
+    2 Transfer "transfer" "The signer pays another wallet.";
+    3 Open "open" "The signer locks credits in an escrow for another wallet.";
+    4 Release "release" "An open escrow pays its recipient.";
+    5 Refund "refund" "An open escrow goes back to its sender.";
+    6 Claim "claim" "A provider claims work done for a requester: a receipt.";
+    7 Accept "accept" "The requester accepts a receipt, which releases its escrow.";
+    8 Dispute "dispute" "The requester disputes a receipt.";
+    9 Sweep "sweep" "Closes receipts and escrows whose deadlines have passed.";
+    10 Freeze "freeze" "An admin freezes or thaws a wallet or the whole system.";
+    11 Caps "caps" "An admin sets a wallet's caps.";
+}
+
+impl Operation {
+    /// Its number in a record, 1 to 11.
+    pub fn number(self) -> u8 {
+        self as u8
+    }
+
+    /// Whether its record has an envelope: a signer, a nonce, a window and a signature. Only a
+    /// sweep has none.
+    pub fn has_envelope(self) -> bool {
+        self != Operation::Sweep
+    }
+}
+
+impl fmt::Display for Operation {
+    fn fmt(&self, f: &mut fmt::Formatter<'_>) -> fmt::Result {
+        f.write_str(self.name())
+    }
+}

@@ -1,0 +1,263 @@
+//! A submission: the fields of a record, and a way to make one for each operation.
+
+use crate::envelope::Envelope;
+use crate::numbers::{EscrowNumber, ReceiptNumber};
+use crate::operation::Operation;
+
+/// The fields of a submission record.
+///
+/// Make one by the function of its operation; it fills in what the operation uses and leaves the
+/// rest 0, as the rules ask. The fields are open, so that any record can be taken apart and
+/// changed: whether they have the form of their operation is decided when a record is
+/// [written](Submission::to_record).
+///
+/// ```
+/// use milebeacon::{Envelope, Operation, Submission};
+///
+/// let now = 1_700_000_000_000;
+/// let open = Submission::open(Envelope::new(now, 7, 1), 8, 20_000_000, now + 3_600_000);
+/// assert_eq!(open.operation(), Some(Operation::Open));
+///
+/// let record = open.to_record()?;
+/// assert_eq!(record[..4], [0xA7, 0x3C, 3, 1]);
+/// assert_eq!(Submission::read(&record)?, open);
+/// # Ok::<(), milebeacon::Refusal>(())
+/// ```
+#[repr(C)]
+#[derive(Clone, Copy, Debug, Default, PartialEq, Eq, Hash)]
+pub struct Submission {
+    /// The operation's number.
+    pub op: u8,
+    /// The flag bits: [`SIGNED`](Submission::SIGNED) and the others.
+    pub flags: u8,
+    /// The host's clock.
+    pub now: u64,
+    /// The party that signed.
+    pub signer: u64,
+    /// The signer's number for this record.
+    pub nonce: u64,
+    /// When the record was issued.
+    pub issued: u64,
+    /// Until when it may settle.
+    pub expires: u64,
+    /// A wallet's id, an escrow's number or a receipt's number, by the operation.
+    pub target: u64,
+    /// The amount; a sweep's limit; a cap per transaction.
+    pub amount: u64,
+    /// A deadline.
+    pub until: u64,
+    /// The escrow of a claim, or 0; a daily cap.
+    pub link: u64,
+    /// The hash of the work claimed, as little-endian groups of 8 bytes.
+    pub hash: [u64; 4],
+}
+
+/// What a provider claims, for [`Submission::claim`].
+#[derive(Clone, Copy, Debug, PartialEq, Eq, Hash)]
+pub struct Claim {
+    /// The wallet for which the work was done.
+    pub requester: u64,
+    /// The last moment of the time for acceptance.
+    pub until: u64,
+    /// The escrow that acceptance releases.
+    pub escrow: Option<EscrowNumber>,
+    /// The hash of the work.
+    pub hash: [u8; 32],
+    /// Whether a sweep after the deadline accepts the receipt, where it would otherwise expire.
+    pub auto_accept: bool,
+}
+
+/// What [`Submission::freeze`] freezes or thaws.
+#[derive(Clone, Copy, Debug, PartialEq, Eq, Hash)]
+pub enum Freezable {
+    /// Everything but freezing and setting caps.
+    System,
+    /// The payments of one wallet.
+    Wallet(u64),
+}
+
+impl Submission {
+    /// Flag bit 0: a valid signature is held.
+    pub const SIGNED: u8 = 1;
+    /// Flag bit 1: the signer is an admin.
+    pub const ADMIN: u8 = 2;
+    /// Flag bit 2, of a claim: accept it when its time is over.
+    pub const AUTO_ACCEPT: u8 = 4;
+    /// Flag bit 2, of a freeze: freeze, where a clear bit thaws.
+    pub const FREEZE: u8 = 4;
+    /// Flag bit 3, of a dispute: a reason was given.
+    pub const REASON: u8 = 8;
+
+    /// New credits for the wallet `target`. Admins only.
+    pub fn grant(envelope: Envelope, target: u64, amount: u64) -> Submission {
+        Submission {
+            target,
+            amount,
+            ..by_admin(Operation::Grant, envelope)
+        }
+    }
+
+    /// Pays `amount` to the wallet `target`.
+    pub fn transfer(envelope: Envelope, target: u64, amount: u64) -> Submission {
+        Submission {
+            target,
+            amount,
+            ..enveloped(Operation::Transfer, envelope)
+        }
+    }
+
+    /// Locks `amount` for the wallet `target` until the deadline `until`.
+    pub fn open(envelope: Envelope, target: u64, amount: u64, until: u64) -> Submission {
+        Submission {
+            target,
+            amount,
+            until,
+            ..enveloped(Operation::Open, envelope)
+        }
+    }
+
+    /// Pays an open escrow to its recipient. For its sender and for admins.
+    pub fn release(envelope: Envelope, escrow: EscrowNumber) -> Submission {
+        Submission {
+            target: escrow.0,
+            ..by_admin(Operation::Release, envelope)
+        }
+    }
+
+    /// Gives an open escrow back to its sender. For its sender and for admins.
+    pub fn refund(envelope: Envelope, escrow: EscrowNumber) -> Submission {
+        Submission {
+            target: escrow.0,
+            ..by_admin(Operation::Refund, envelope)
+        }
+    }
+
+    /// Claims work done; the signer is the provider.
+    pub fn claim(envelope: Envelope, claim: Claim) -> Submission {
+        let mut submission = Submission {
+            target: claim.requester,
+            until: claim.until,
+            link: claim.escrow.map_or(0, u64::from),
+            hash: words_of(&claim.hash),
+            ..enveloped(Operation::Claim, envelope)
+        };
+        if claim.auto_accept {
+            submission.flags |= Submission::AUTO_ACCEPT;
+        }
+        submission
+    }
+
+    /// Accepts a receipt; the signer is its requester.
+    pub fn accept(envelope: Envelope, receipt: ReceiptNumber) -> Submission {
+        Submission {
+            target: receipt.0,
+            ..enveloped(Operation::Accept, envelope)
+        }
+    }
+
+    /// Disputes a receipt, for a reason that the host has been given; the signer is its requester.
+    pub fn dispute(envelope: Envelope, receipt: ReceiptNumber, reason_given: bool) -> Submission {
+        let mut submission = Submission {
+            target: receipt.0,
+            ..enveloped(Operation::Dispute, envelope)
+        };
+        if reason_given {
+            submission.flags |= Submission::REASON;
+        }
+        submission
+    }
+
+    /// Closes at most `limit` receipts and escrows whose deadlines have passed. Nobody signs it.
+    pub fn sweep(now: u64, limit: u64) -> Submission {
+        Submission {
+            op: Operation::Sweep.number(),
+            now,
+            amount: limit,
+            ..Submission::default()
+        }
+    }
+
+    /// Freezes (`true`) or thaws a wallet or the system. Admins only.
+    pub fn freeze(envelope: Envelope, what: Freezable, frozen: bool) -> Submission {
+        let target = match what {
+            Freezable::System => 0,
+            Freezable::Wallet(id) => id,
+        };
+        let mut submission = Submission {
+            target,
+            ..by_admin(Operation::Freeze, envelope)
+        };
+        if frozen {
+            submission.flags |= Submission::FREEZE;
+        }
+        submission
+    }
+
+    /// Sets the caps of the wallet `target`: for one payment, and for a day's transfers. Admins
+    /// only.
+    pub fn caps(envelope: Envelope, target: u64, per_transaction: u64, daily: u64) -> Submission {
+        Submission {
+            target,
+            amount: per_transaction,
+            link: daily,
+            ..by_admin(Operation::Caps, envelope)
+        }
+    }
+
+    /// The operation, if its number is one.
+    pub fn operation(&self) -> Option<Operation> {
+        Operation::from_number(self.op)
+    }
+
+    /// Whether a flag bit is set.
+    pub fn has(&self, flag: u8) -> bool {
+        self.flags & flag != 0
+    }
+
+    /// The 32 bytes of the hash.
+    pub fn hash_bytes(&self) -> [u8; 32] {
+        let mut bytes = [0; 32];
+        for (group, word) in bytes.chunks_exact_mut(8).zip(self.hash) {
+            group.copy_from_slice(&word.to_le_bytes());
+        }
+        bytes
+    }
+}
+
+/// The envelope's fields, for an operation that does not ask whether the signer is an admin.
+fn enveloped(operation: Operation, envelope: Envelope) -> Submission {
+    Submission {
+        op: operation.number(),
+        flags: if envelope.signed {
+            Submission::SIGNED
+        } else {
+            0
+        },
+        now: envelope.now,
+        signer: envelope.signer,
+        nonce: envelope.nonce,
+        issued: envelope.issued,
+        expires: envelope.expires,
+        ..Submission::default()
+    }
+}
+
+/// The envelope's fields, for an operation that asks.
+fn by_admin(operation: Operation, envelope: Envelope) -> Submission {
+    let mut submission = enveloped(operation, envelope);
+    if envelope.admin {
+        submission.flags |= Submission::ADMIN;
+    }
+    submission
+}
+
+/// Hash words are little-endian groups of 8.
+fn words_of(hash: &[u8; 32]) -> [u64; 4] {
+    let mut words = [0; 4];
+    for (word, group) in words.iter_mut().zip(hash.chunks_exact(8)) {
+        for &byte in group.iter().rev() {
+            *word = *word << 8 | u64::from(byte);
+        }
+    }
+    words
+}

@@ -1,0 +1,120 @@
+//! Names, numbers and statuses of the answers, as the rules list them.
+
+use std::collections::BTreeSet;
+use std::error::Error;
+
+use milebeacon::{status, Answer, Operation, Refusal};
+
+/// The names of the rules, 1 to 40.
+const NAMES: [&str; 40] = [
+    "bad_table",
+    "ledger_damaged",
+    "malformed_record",
+    "clock_back",
+    "system_frozen",
+    "invalid_signature",
+    "not_admin",
+    "envelope_not_yet_valid",
+    "envelope_expired",
+    "envelope_window_too_long",
+    "nonce_seen",
+    "amount_out_of_range",
+    "sender_not_found",
+    "sender_frozen",
+    "recipient_invalid",
+    "wallet_not_found",
+    "insufficient_balance",
+    "per_tx_cap_exceeded",
+    "daily_cap_exceeded",
+    "escrow_deadline_past",
+    "escrow_deadline_exceeds_max",
+    "provider_not_found",
+    "requester_not_found",
+    "acceptance_window_too_short",
+    "acceptance_window_too_long",
+    "acceptance_deadline_past",
+    "escrow_not_found",
+    "escrow_signer_not_authorized",
+    "escrow_not_open",
+    "escrow_did_mismatch",
+    "acceptance_deadline_exceeds_escrow",
+    "receipt_not_found",
+    "receipt_signer_not_authorized",
+    "receipt_not_pending",
+    "dispute_reason_required",
+    "grant_limit",
+    "wallet_table_full",
+    "escrow_table_full",
+    "receipt_table_full",
+    "journal_table_full",
+];
+
+/// The statuses of the rules, 0 to 40.
+const STATUSES: [u64; 41] = [
+    200, 500, 500, 400, 409, 503, 400, 403, 400, 400, 400, 409, 400, 404, 403, 400, 404, 402, 400,
+    429, 400, 400, 404, 404, 400, 400, 400, 404, 403, 409, 400, 400, 404, 403, 409, 400, 409, 507,
+    507, 507, 507,
+];
+
+#[test]
+fn refusals_have_the_names_and_numbers_of_the_rules() {
+    let names: Vec<&str> = Refusal::ALL.iter().map(|refusal| refusal.name()).collect();
+    assert_eq!(names, NAMES);
+    for (number, &refusal) in (1..).zip(Refusal::ALL) {
+        assert_eq!(refusal.number(), number);
+        assert_eq!(Refusal::from_number(number), Some(refusal));
+        assert_eq!(
+            Answer::from_parts(number, 0),
+            Some(Answer::Refused(refusal))
+        );
+        assert_eq!(Answer::from_parts(number, 1), None, "a refusal has word 0");
+    }
+    for number in [0, 41, 255, u64::MAX] {
+        assert_eq!(Refusal::from_number(number), None);
+    }
+}
+
+#[test]
+fn statuses_are_those_of_the_rules() {
+    for (number, &expected) in (0..).zip(&STATUSES) {
+        assert_eq!(status(number), expected);
+        let answer = Answer::from_parts(number, 0).expect("an answer");
+        assert_eq!(answer.status(), expected);
+    }
+    assert_eq!([41, 1_000, u64::MAX].map(status), [500; 3]);
+}
+
+#[test]
+fn refusals_are_errors_that_speak_for_themselves() {
+    fn passed_on(answer: Answer) -> Result<u64, Box<dyn Error>> {
+        Ok(answer.settled()?)
+    }
+    assert_eq!(passed_on(Answer::Settled(5)).ok(), Some(5));
+    let error = passed_on(Answer::Refused(Refusal::ClockBack)).expect_err("a refusal");
+    assert_eq!(
+        error.to_string(),
+        "clock_back: now is before the ledger's last clock"
+    );
+    let said: BTreeSet<String> = Refusal::ALL.iter().map(ToString::to_string).collect();
+    assert_eq!(said.len(), 40, "no two say the same");
+}
+
+#[test]
+fn operations_have_the_numbers_of_the_rules() {
+    let names: Vec<&str> = Operation::ALL
+        .iter()
+        .map(|operation| operation.name())
+        .collect();
+    assert_eq!(
+        names,
+        [
+            "grant", "transfer", "open", "release", "refund", "claim", "accept", "dispute",
+            "sweep", "freeze", "caps"
+        ]
+    );
+    for (number, &operation) in (1..).zip(Operation::ALL) {
+        assert_eq!(operation.number(), number);
+        assert_eq!(Operation::from_number(number), Some(operation));
+    }
+    assert_eq!([0, 12, 255].map(Operation::from_number), [None; 3]);
+}
