@@ -1,16 +1,15 @@
 -- The parts together: the ledger is not sound where one part fails, and is what the last part says where all others hold.
-use mathlib.Core.Path.{_≡_, refl, sym, ap, _∙_}
+use mathlib.Core.Path.{_≡_, refl, sym, _∙_}
 use mathlib.Core.Bool.{Bool, true, false, not, _&&_, and-false}
 use mathlib.Core.List.{List}
 use Prim.Native.Nat.{ℕ}
 use lib.Dec.{eqb, leb}
 use lib.ListN.{getD}
 use borrow.Author.Tests.{not-true, not-false}
-use Rattle.rules.specs.Limits.{GRANTED, MAX-GRANTED-MICRO, ID, LOCKED}
-use Rattle.rules.specs.Table.{all, every, distinct, sum}
-use Rattle.rules.specs.Ledger.{Ledger, ledger, head, wallet, walletCount, escrowCount, receiptCount, entryCount}
-use Rattle.rules.specs.Sound.{headerTests, walletTests, escrowTests, receiptTests, entryTests, heldIn, credits, soundTests, sound}
-use Rattle.rules.proofs.Bools.{and-fst, and-snd}
+use Rattle.rules.specs.Limits.{GRANTED, MAX-GRANTED-MICRO}
+use Rattle.rules.specs.Table.{all, every}
+use Rattle.rules.specs.Ledger.{ledger, head, walletCount, escrowCount, receiptCount, entryCount}
+use Rattle.rules.specs.Sound.{headerTests, walletTests, receiptTests, entryTests, heldIn, credits, soundTests, sound}
 use Rattle.sound.specs.Parts.{walletsIn, receiptsIn, entriesIn, partiesRight}
 
 -- the order of the passes and that of the definition

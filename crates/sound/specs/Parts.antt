@@ -11,6 +11,9 @@ use Rattle.rules.specs.Ledger.{Ledger, ledger, first-edition}
 use Rattle.rules.specs.Sound.{escrowTests, heldIn}
 use Rattle.index.specs.Index.{NUMBERS}
 
+abbrev pub HEADER-LEN : ℕ
+HEADER-LEN = first-edition .headerLen
+
 abbrev pub ESCROW-LEN : ℕ
 ESCROW-LEN = first-edition .escrowLen
 

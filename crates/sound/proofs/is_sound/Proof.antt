@@ -1,9 +1,7 @@
 -- `sound::is_sound` meets its contract: where the header is right, each pass has its rows within the table, and answers for its own tests.
 use native.Mathlib.Omega.{arith}
-use Prim.Native.Nat.{_<_}
 use mathlib.Core.Path.{_≡_, sym, _∙_}
 use mathlib.Core.Bool.{true}
-use lib.ListN.{length}
 use borrow.Author.Tests.{not-false}
 use Rattle.rules.specs.Ledger.{ledger, walletCount, escrowCount}
 use Rattle.rules.specs.Sound.{headerTests}
@@ -11,17 +9,8 @@ use Rattle.rules.specs.Table.{all}
 use Rattle.sound.specs.Parts.{Tables}
 use Rattle.sound.proofs.Counted.{header-length, escrow-row, tables, receipt-rows, entry-rows}
 use Rattle.sound.proofs.Whole.{no-header, together}
-use borrow.Author.Needs.{needs}
 use Rattle.sound.proofs.is_sound.Statement.{statement}
 use Rattle.sound.proofs.is_sound.Tie as tie
-use Rattle.sound.proofs.is_sound.Reads as reads
-use Rattle.sound.proofs.is_sound.Lts as lts
-use Rattle.sound.proofs.escrows.parties_right.Reads as parties-right-reads
-use Rattle.sound.proofs.header_right.Reads as header-right-reads
-use Rattle.sound.proofs.journal.entries_right.Reads as entries-right-reads
-use Rattle.sound.proofs.receipts.receipts_right.Reads as receipts-right-reads
-use Rattle.sound.proofs.wallets.total_right.Reads as total-right-reads
-use Rattle.sound.proofs.wallets.wallets_right.Reads as wallets-right-reads
 
 -- where the header is right
 right : (c : tie.Else1) → all (headerTests (ledger (c .before .before .before .before .before .before .before .args .header .now) (c .before .before .before .before .before .before .before .args .wallets .now) (c .before .before .before .before .before .before .before .args .escrows .now) (c .before .before .before .before .before .before .before .args .receipts .now) (c .before .before .before .before .before .before .before .args .journal .now))) ≡ true
