@@ -62,10 +62,17 @@ pub fn is_sound(
     }
     let n = header[WALLETS] as usize;
     let m = header[ESCROWS] as usize;
-    let each = wallets::wallets_right(wallets, n);
-    let parties = escrows::parties_right(wallets, n, escrows, m);
-    let linked = receipts::receipts_right(escrows, m, receipts, header[RECEIPTS] as usize);
-    let entries = journal::entries_right(journal, header[ENTRIES] as usize);
-    let total = wallets::total_right(wallets, n, header[GRANTED]);
-    each & (parties & (linked & (entries & total)))
+    if !wallets::wallets_right(wallets, n) {
+        return false;
+    }
+    if !wallets::total_right(wallets, n, header[GRANTED]) {
+        return false;
+    }
+    if !escrows::parties_right(wallets, n, escrows, m) {
+        return false;
+    }
+    if !receipts::receipts_right(escrows, m, receipts, header[RECEIPTS] as usize) {
+        return false;
+    }
+    journal::entries_right(journal, header[ENTRIES] as usize)
 }

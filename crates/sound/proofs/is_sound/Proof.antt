@@ -8,7 +8,7 @@ use Rattle.rules.specs.Sound.{headerTests}
 use Rattle.rules.specs.Table.{all}
 use Rattle.sound.specs.Parts.{Tables}
 use Rattle.sound.proofs.Counted.{header-length, escrow-row, tables, receipt-rows, entry-rows}
-use Rattle.sound.proofs.Whole.{no-header, together}
+use Rattle.sound.proofs.Whole.{no-header, no-wallets, no-total, no-parties, no-receipts, the-entries}
 use Rattle.sound.proofs.is_sound.Statement.{statement}
 use Rattle.sound.proofs.is_sound.Tie as tie
 
@@ -35,32 +35,44 @@ shared-slice-read-m c = omega (arith, header-length _ _ _ _ _ (c .before .before
 wallets-right-requires : tie.Need-wallets-right-requires
 wallets-right-requires c κs = within (c .before .before) .wallets
 
+returns-2 : tie.Need-returns-2
+returns-2 c = no-wallets _ _ _ _ _ (right (c .before .before .before .before)) _ (c .before .wallets-right .ensures) (c .if2 .taken)
+
+shared-slice-read-total-right : tie.Need-shared-slice-read-total-right
+shared-slice-read-total-right c = omega (arith, header-length _ _ _ _ _ (c .before .before .before .before .before .before .before .before .before .before .before .before .pre))
+
+total-right-requires : tie.Need-total-right-requires
+total-right-requires c κs = within (c .before .before .before .before .before) .wallets
+
+returns-3 : tie.Need-returns-3
+returns-3 c = no-total _ _ _ _ _ (right (c .before .before .before .before .before .before .before)) _ (c .before .total-right .ensures) (c .if3 .taken)
+
 parties-right-requires : tie.Need-parties-right-requires
-parties-right-requires c κs = within (c .before .before .before)
+parties-right-requires c κs = within (c .before .before .before .before .before .before .before)
+
+returns-4 : tie.Need-returns-4
+returns-4 c = no-parties _ _ _ _ _ (right (c .before .before .before .before .before .before .before .before .before)) _ (c .before .parties-right .ensures) (c .if4 .taken)
 
 shared-slice-read-receipts-right : tie.Need-shared-slice-read-receipts-right
-shared-slice-read-receipts-right c = omega (arith, header-length _ _ _ _ _ (c .before .before .before .before .before .before .before .before .before .before .before .before .pre))
+shared-slice-read-receipts-right c = omega (arith, header-length _ _ _ _ _ (c .before .before .before .before .before .before .before .before .before .before .before .before .before .before .before .before .before .pre))
 
 receipts-right-requires : tie.Need-receipts-right-requires
 receipts-right-requires c κs =
-    (within (c .before .before .before .before .before) .escrows, escrow-row _ _ _ _ _ (c .before .before .before .before .before .before .before .before .before .before .before .before .pre), receipt-rows _ _ _ _ _ (c .before .before .before .before .before .before .before .before .before .before .before .before .pre) (right (c .before .before .before .before .before)))
+    (within (c .before .before .before .before .before .before .before .before .before .before) .escrows, escrow-row _ _ _ _ _ (c .before .before .before .before .before .before .before .before .before .before .before .before .before .before .before .before .before .pre), receipt-rows _ _ _ _ _ (c .before .before .before .before .before .before .before .before .before .before .before .before .before .before .before .before .before .pre) (right (c .before .before .before .before .before .before .before .before .before .before)))
+
+returns-5 : tie.Need-returns-5
+returns-5 c = no-receipts _ _ _ _ _ (right (c .before .before .before .before .before .before .before .before .before .before .before .before)) _ (c .before .receipts-right .ensures) (c .if5 .taken)
 
 shared-slice-read-entries-right : tie.Need-shared-slice-read-entries-right
-shared-slice-read-entries-right c = omega (arith, header-length _ _ _ _ _ (c .before .before .before .before .before .before .before .before .before .before .before .before .before .before .pre))
+shared-slice-read-entries-right c = omega (arith, header-length _ _ _ _ _ (c .before .before .before .before .before .before .before .before .before .before .before .before .before .before .before .before .before .before .before .before .pre))
 
 entries-right-requires : tie.Need-entries-right-requires
-entries-right-requires c κs = entry-rows _ _ _ _ _ (c .before .before .before .before .before .before .before .before .before .before .before .before .before .before .pre) (right (c .before .before .before .before .before .before .before))
+entries-right-requires c κs = entry-rows _ _ _ _ _ (c .before .before .before .before .before .before .before .before .before .before .before .before .before .before .before .before .before .before .before .before .pre) (right (c .before .before .before .before .before .before .before .before .before .before .before .before .before))
 
-shared-slice-read-total-right : tie.Need-shared-slice-read-total-right
-shared-slice-read-total-right c = omega (arith, header-length _ _ _ _ _ (c .before .before .before .before .before .before .before .before .before .before .before .before .before .before .before .before .pre))
-
-total-right-requires : tie.Need-total-right-requires
-total-right-requires c κs = within (c .before .before .before .before .before .before .before .before .before) .wallets
-
-returns-2 : tie.Need-returns-2
-returns-2 c =
-    together _ _ _ _ _ _ _ _ _ _ _ (c .before .before .before .before .before .before .before .before .before .before .before .header-right .ensures) (c .before .before .before .before .before .before .before .before .before .before .if1 .left) (c .before .before .before .before .before .before .before .wallets-right .ensures) (c .before .before .before .before .before .before .parties-right .ensures)
-    (c .before .before .before .before .receipts-right .ensures) (c .before .before .entries-right .ensures) (c .total-right .ensures)
+returns-6 : tie.Need-returns-6
+returns-6 c =
+    the-entries _ _ _ _ _ (right (c .before .before .before .before .before .before .before .before .before .before .before .before .before .before)) _ _ _ _ _ (c .before .before .before .before .before .before .before .before .before .before .before .wallets-right .ensures) (c .before .before .before .before .before .before .before .before .before .before .if2 .left) (c .before .before .before .before .before .before .before .before .total-right .ensures) (c .before .before .before .before .before .before .before .if3 .left)
+    (c .before .before .before .before .before .before .parties-right .ensures) (c .before .before .before .before .before .if4 .left) (c .before .before .before .receipts-right .ensures) (c .before .before .if5 .left) (c .entries-right .ensures)
 
 pub is-sound-spec : {M : Type 1} → statement M
 is-sound-spec =
@@ -71,11 +83,15 @@ is-sound-spec =
     shared-slice-read-n
     shared-slice-read-m
     wallets-right-requires
-    parties-right-requires
-    shared-slice-read-receipts-right
-    receipts-right-requires
-    shared-slice-read-entries-right
-    entries-right-requires
+    returns-2
     shared-slice-read-total-right
     total-right-requires
-    returns-2)
+    returns-3
+    parties-right-requires
+    returns-4
+    shared-slice-read-receipts-right
+    receipts-right-requires
+    returns-5
+    shared-slice-read-entries-right
+    entries-right-requires
+    returns-6)
