@@ -11,7 +11,9 @@ use rules::limits::AUTO_ACCEPT;
 use rules::limits::CLAIMED_AT;
 use rules::limits::ESCROW_LEN;
 use rules::limits::FROM;
+use rules::limits::LAPSED;
 use rules::limits::LAST_TIME_MS;
+use rules::limits::PENDING;
 use rules::limits::PROVIDER;
 use rules::limits::RECEIPT_CLOSED_AT;
 use rules::limits::RECEIPT_LEN;
@@ -54,7 +56,7 @@ fn receipt_right(e: &[u64], m: usize, r: &[u64], k: usize) -> bool
         & ((r[at + ACCEPTANCE_DEADLINE] <= LAST_TIME_MS)
             & ((r[at + CLAIMED_AT] <= LAST_TIME_MS)
                 & ((r[at + RECEIPT_CLOSED_AT] <= LAST_TIME_MS)
-                    & ((r[at + AUTO_ACCEPT] <= 1) & ((1 <= state) & (state <= 4))))))
+                    & ((r[at + AUTO_ACCEPT] <= 1) & ((PENDING <= state) & (state <= LAPSED))))))
 }
 
 pub fn receipts_right(e: &[u64], m: usize, r: &[u64], p: usize) -> bool
