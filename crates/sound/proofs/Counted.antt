@@ -7,11 +7,7 @@ use native.Mathlib.Nat.{le-trans}
 use lib.Dec.{eqb, leb}
 use lib.ListN.{getD, length}
 use borrow.Author.Tests.{eqb-true, leb-true}
-<<<<<<< HEAD
-use Rattle.rules.specs.Limits.{WALLET-LEN, RECEIPT-LEN, JOURNAL-LEN, MAX-WALLETS, MAX-ESCROWS}
-=======
-use Rattle.rules.specs.Limits.{ESCROW-LEN, WALLET-LEN, RECEIPT-LEN, JOURNAL-LEN, MAX-WALLETS, MAX-ESCROWS, MAX-RECEIPTS, MAX-ENTRIES}
->>>>>>> 4e3d253de600b602333e8434235f31de5fb6c6e3
+use Rattle.rules.specs.Limits.{ESCROW-LEN, WALLET-LEN, RECEIPT-LEN, JOURNAL-LEN, MAX-WALLETS, MAX-ESCROWS}
 use Rattle.rules.specs.Table.{rowsIn, all, tableRight}
 use Rattle.rules.specs.Ledger.{ledger, lengthTests, lengthsRight, walletCount, escrowCount, receiptCount, entryCount}
 use Rattle.rules.specs.Sound.{headerTests}

@@ -11,15 +11,6 @@ use Rattle.rules.specs.Ledger.{Ledger, ledger}
 use Rattle.rules.specs.Sound.{escrowTests, heldIn}
 use Rattle.index.specs.Index.{NUMBERS}
 
-<<<<<<< HEAD
-abbrev pub HEADER-LEN : ℕ
-HEADER-LEN = first-edition .headerLen
-
-abbrev pub ESCROW-LEN : ℕ
-ESCROW-LEN = first-edition .escrowLen
-
-=======
->>>>>>> 4e3d253de600b602333e8434235f31de5fb6c6e3
 -- a header with the rows written in wallets and escrows
 abbrev pub counts : ℕ → ℕ → List ℕ
 counts n m = 0 ∷ 0 ∷ 0 ∷ 0 ∷ n ∷ m ∷ 0 ∷ 0 ∷ []

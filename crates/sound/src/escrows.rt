@@ -3,15 +3,9 @@ ghost use mathlib.Core.Path.{_≡_};
 ghost use mathlib.Core.Bool.{true, cond};
 ghost use Prim.Native.Nat.{_+_, _*_, _≤_};
 ghost use lib.Dec.{eqb};
-<<<<<<< HEAD
 ghost use lib.ListN.{length, drop};
-ghost use Rattle.rules.specs.Limits.{WALLET-LEN, MAX-WALLETS, IS-OPEN, ESCROW-STATE, ESCROW-AMOUNT};
-ghost use Rattle.rules.specs.Table.{word, all, every};
-=======
-ghost use lib.ListN.{length, getD, drop};
 ghost use Rattle.rules.specs.Limits.{ESCROW-LEN, WALLET-LEN, MAX-WALLETS, IS-OPEN, ESCROW-STATE, ESCROW-AMOUNT};
-ghost use Rattle.rules.specs.Table.{word, all, every, distinct};
->>>>>>> 4e3d253de600b602333e8434235f31de5fb6c6e3
+ghost use Rattle.rules.specs.Table.{word, all, every};
 ghost use Rattle.rules.specs.Sound.{escrowTests};
 ghost use Rattle.index.specs.Index.{Indexed};
 ghost use Rattle.sound.specs.Parts.{parties, Tables, Held, HeldAll, lockedIs, partiesRight};

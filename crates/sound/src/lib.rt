@@ -5,7 +5,7 @@ ghost use lib.ListN.{length};
 ghost use Rattle.rules.specs.Table.{all};
 ghost use Rattle.rules.specs.Ledger.{ledger, lengthsRight};
 ghost use Rattle.rules.specs.Sound.{headerTests, sound};
-ghost use Rattle.sound.specs.Parts.{HEADER-LEN};
+ghost use Rattle.rules.specs.Limits.{HEADER-LEN};
 use rules::limits::CLOCK;
 use rules::limits::EDITION;
 use rules::limits::ENTRIES;

@@ -5,20 +5,12 @@ use Prim.Native.Nat.{_≤_, _-_}
 use mathlib.Core.Path.{_≡_}
 use mathlib.Core.Bool.{true, false, false≢true}
 use borrow.Author.Tests.{not-true, not-false}
-<<<<<<< HEAD
-use Rattle.rules.specs.Limits.{MAX-WALLETS, FROM, TO}
-=======
-use Rattle.rules.specs.Limits.{ESCROW-LEN, MAX-WALLETS, MAX-ESCROWS, MAX-AMOUNT-MICRO, FROM, TO}
->>>>>>> 4e3d253de600b602333e8434235f31de5fb6c6e3
+use Rattle.rules.specs.Limits.{ESCROW-LEN, MAX-WALLETS, FROM, TO}
 use Rattle.rules.specs.Table.{word, all, every}
 use Rattle.rules.specs.Sound.{escrowTests}
 use Rattle.rules.proofs.Counts.{every-none}
 use Rattle.index.proofs.Laws.{indexed-apart}
-<<<<<<< HEAD
-use Rattle.sound.specs.Parts.{ESCROW-LEN, parties, Held}
-=======
-use Rattle.sound.specs.Parts.{parties, Held, HeldAll}
->>>>>>> 4e3d253de600b602333e8434235f31de5fb6c6e3
+use Rattle.sound.specs.Parts.{parties, Held}
 use Rattle.sound.proofs.Loops.{pass-on, fails, passes}
 use Rattle.sound.proofs.Holds.{Sent, sent, not-sent, sent-row, row-wrong, row-right, sums-fit, held-more}
 use borrow.Author.Needs.{needs}
