@@ -10,10 +10,9 @@ use Rattle.rules.specs.Limits.{GRANT, SWEEP, FREEZE, CAPS, SIGNATURE-HELD, ADMI
 use Rattle.rules.specs.Table.{every}
 use Rattle.rules.specs.Ledger.{ledger}
 use Rattle.rules.specs.Sound.{between}
-use Rattle.rules.specs.Refusals.{first, oneOf, signed, clear, seen, envelopeRefusals}
+use Rattle.rules.specs.Refusals.{first, oneOf, signed, clear, seenIn, seen, envelopeRefusals}
 use Rattle.rules.specs.declared.Submission.{Submission}
 use Rattle.rules.proofs.Below.{below}
-use Rattle.envelope.specs.Seen.{seenIn}
 
 -- two tests that agree
 same : (a b : Bool) → T (cond a b (not b)) → a ≡ b

@@ -9,7 +9,7 @@ use lib.Dec.{eqb}
 use Rattle.rules.specs.Limits.{JOURNAL-LEN, SIGNER, NONCE}
 use Rattle.rules.specs.Table.{word, some}
 use Rattle.rules.proofs.Counts.{some-of}
-use Rattle.envelope.specs.Seen.{seenIn}
+use Rattle.rules.specs.Refusals.{seenIn}
 
 module _ (j : List ℕ) (signer nonce : ℕ) where
   abbrev pub has : ℕ → Bool

@@ -6,10 +6,10 @@ use mathlib.Core.Bool.{Bool, not, cond, _&&_, _||_}
 use Prim.Native.Nat.{ℕ, _+_, _-_}
 use lib.ListN.{getD}
 use lib.Dec.{eqb, ltb, leb}
-use Rattle.rules.specs.Limits.{RECEIPT-LEN, JOURNAL-LEN, MIN-ACCEPTANCE-MS, MAX-ACCEPTANCE-MS, CLAIM, WALLETS, ESCROWS, RECEIPTS, ENTRIES}
+use Rattle.rules.specs.Limits.{ESCROW-LEN, RECEIPT-LEN, JOURNAL-LEN, MIN-ACCEPTANCE-MS, MAX-ACCEPTANCE-MS, CLAIM, WALLETS, ESCROWS, RECEIPTS, ENTRIES}
 use Rattle.rules.specs.Limits.{FROM, TO, ESCROW-DEADLINE, ESCROW-STATE, IS-OPEN}
 use Rattle.rules.specs.Table.{word}
-use Rattle.rules.specs.Ledger.{Ledger, ledger, first-edition, rowOf, escrow, escrowCount, receiptCount, entryCount, hasWallet, written, full}
+use Rattle.rules.specs.Ledger.{Ledger, ledger, rowOf, escrow, escrowCount, receiptCount, entryCount, hasWallet, written, full}
 use Rattle.rules.specs.Refusals.{Refusal, row, first, ofEscrow, releasable, operationRefusals}
 use Rattle.rules.specs.declared.Submission.{Submission}
 use Rattle.holds.specs.Named.{rowNamed}
@@ -39,10 +39,6 @@ ofClaim L s =
 pub claim-rows : (L : Ledger) (s : Submission) → s .op ≡ CLAIM → first (operationRefusals L s) ≡ first (ofClaim L s)
 unfolding operationRefusals ofClaim
 claim-rows L s o = simp o
-
--- the words of an escrow row
-abbrev ESCROW-LEN : ℕ
-ESCROW-LEN = first-edition .escrowLen
 
 pub claim-by :
     (h w e r j : List ℕ) (s : Submission)

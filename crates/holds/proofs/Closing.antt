@@ -7,9 +7,9 @@ use mathlib.Core.Bool.{not, cond, _&&_, or-false}
 use Prim.Native.Nat.{ℕ, _-_}
 use lib.ListN.{getD}
 use lib.Dec.{eqb, leb}
-use Rattle.rules.specs.Limits.{JOURNAL-LEN, RELEASE, REFUND, ADMIN, ESCROWS, ENTRIES, FROM, ESCROW-DEADLINE, ESCROW-STATE, IS-OPEN}
+use Rattle.rules.specs.Limits.{ESCROW-LEN, JOURNAL-LEN, RELEASE, REFUND, ADMIN, ESCROWS, ENTRIES, FROM, ESCROW-DEADLINE, ESCROW-STATE, IS-OPEN}
 use Rattle.rules.specs.Table.{word}
-use Rattle.rules.specs.Ledger.{Ledger, ledger, first-edition, escrow, escrowCount, entryCount, written, full}
+use Rattle.rules.specs.Ledger.{Ledger, ledger, escrow, escrowCount, entryCount, written, full}
 use Rattle.rules.specs.Refusals.{Refusal, row, first, clear, ofEscrow, releasable, operationRefusals}
 use Rattle.rules.specs.declared.Submission.{Submission}
 use Rattle.holds.specs.Named.{rowNamed}
@@ -30,10 +30,6 @@ release-rows L s o = simp (o, or-false)
 pub refund-rows : (L : Ledger) (s : Submission) → s .op ≡ REFUND → first (operationRefusals L s) ≡ first (ofClosing L s)
 unfolding operationRefusals ofClosing
 refund-rows L s o = simp (o, or-false)
-
--- the words of an escrow row
-abbrev ESCROW-LEN : ℕ
-ESCROW-LEN = first-edition .escrowLen
 
 pub closing-by :
     (h w e r j : List ℕ) (s : Submission) (i from deadline state r27 r28 r29 r40 : ℕ)

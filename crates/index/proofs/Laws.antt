@@ -1,9 +1,8 @@
 -- Laws of tests over rows that agree, of ids that a function takes back to their rows, and of numbers that stand in for a first row.
 use mathlib.Core.Path.{_≡_, refl, sym, ap, ap₂, _∙_}
-use mathlib.Core.Bool.{Bool, true, false, not, cond, _&&_, false≢true}
+use mathlib.Core.Bool.{Bool, true, false, not, _&&_}
 use mathlib.Core.List.{List}
-use mathlib.Core.Logic.{_⊎_, ⊎-elim}
-use Prim.Native.Nat.{ℕ, zero, suc, _+_, _-_, _*_, _≤_, _<_}
+use Prim.Native.Nat.{ℕ, zero, suc, _+_, _≤_, _<_}
 use native.Mathlib.Nat.{not-suc-le-zero}
 use native.Mathlib.Numerals.{add-one}
 use native.Mathlib.Omega.{arith}
@@ -16,7 +15,7 @@ use Rattle.rules.specs.Limits.{WALLET-LEN, MAX-WALLETS, ID}
 use Rattle.rules.specs.Table.{word, every, distinct}
 use Rattle.rules.specs.Ledger.{rowOf}
 use Rattle.rules.proofs.Counts.{every-intro, every-at}
-use Rattle.rules.proofs.Seek.{seek-at, seek-le}
+use Rattle.rules.proofs.Seek.{seek-at}
 use Rattle.index.specs.Index.{NUMBERS, idAt, Copied, Hit, Indexed, numberOf, senderOf}
 
 -- tests that agree on the first n

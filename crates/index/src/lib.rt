@@ -1,7 +1,8 @@
 // An index of the wallets by id, that nobody trusts: a look-up checks what it proposes, and searches where it proposes nothing.
+// Parties choose their ids, so the index is a tree over the bits of an id and no hash table: whatever the ids, a walk ends after STEPS steps.
 ghost use mathlib.Core.Path.{_≡_};
 ghost use mathlib.Core.Bool.{true};
-ghost use Prim.Native.Nat.{ℕ, _+_, _*_, _≤_, _<_};
+ghost use Prim.Native.Nat.{_+_, _*_, _≤_, _<_};
 ghost use lib.ListN.{length};
 ghost use Rattle.rules.specs.Limits.{WALLET-LEN, MAX-WALLETS};
 ghost use Rattle.rules.specs.Table.{every, distinct};
@@ -23,7 +24,7 @@ pub const PLACES: usize = ROOTS + BRANCHES * NUMBERS;
 // After so many steps the bits of an id are at their end.
 const STEPS: usize = 12;
 
-// How many steps `near` takes.
+// How many steps `near` takes. No walk of random ids, or of ids in a row, takes more.
 const NEAR: usize = 4;
 
 fn wide(x: u16) -> usize
@@ -69,12 +70,13 @@ fn differ_each(ids: &[u64; NUMBERS], n: usize) -> bool
     ok
 }
 
-// Where the walk of the id x ends: a free place, with the steps that were left there, or no steps left.
+// Where the walk of an id ends: a free place, with the steps that were left there, or no steps left.
 struct Seat {
     place: usize,
     left: usize,
 }
 
+// The seat of the id x, where the index has n wallets.
 fn seat_for(ids: &[u64; NUMBERS], t: &[u16; PLACES], n: usize, x: u64) -> Seat
     requires { ⌜ (n ≤ MAX-WALLETS) × Within n (now t) ⌝ }
     ensures { λ r. ⌜ Seated (now (ids .entry)) (now (t .entry)) x (r .place) (r .left) ⌝ }
@@ -101,7 +103,7 @@ fn seat_for(ids: &[u64; NUMBERS], t: &[u16; PLACES], n: usize, x: u64) -> Seat
 }
 
 // Gives each of the first n wallets its place in the index, which is empty before. The answer is 0 where two have the same id; else the most
-// steps that a walk takes.
+// steps that a walk takes. That ids differ is shown by the index itself: the walk of each id comes to its own number.
 pub fn fill(ids: &[u64; NUMBERS], t: &mut [u16; PLACES], n: usize) -> usize
     requires { ⌜ (n ≤ MAX-WALLETS) × Within 0 (now t) ⌝ }
     ensures { λ r. ⌜ Filled (now (ids .entry)) n (now (t .exit)) r ⌝ }
@@ -167,7 +169,8 @@ fn near(ids: &[u64; NUMBERS], t: &[u16; PLACES], n: usize, x: u64) -> usize
     0
 }
 
-// The same by every step that a walk can take, with no branch that depends on the id: it takes the same time for any ids.
+// The same by every step that a walk can take, with no branch that depends on the id: a branch that the ids make hard to foresee would cost
+// more than the steps it saves.
 fn far(ids: &[u64; NUMBERS], t: &[u16; PLACES], n: usize, x: u64) -> usize
     requires { ⌜ (n ≤ MAX-WALLETS) × Within n (now t) ⌝ }
     ensures { λ r. ⌜ Hit (now (ids .entry)) n x r ⌝ }
@@ -206,7 +209,8 @@ fn proposed(ids: &[u64; NUMBERS], t: &[u16; PLACES], n: usize, most: usize, x: u
     if most <= NEAR { near(ids, t, n, x) } else { 0 }
 }
 
-// The number of the wallet `from`, if that and `to` have one; else 0.
+// The number of the wallet `from`, if that and `to` have one; else 0. `look_on` stands here twice, and in no function of its own with
+// `proposed`, so that the compiler has the few steps of `near` in line and the rest out of the way.
 pub fn sender(
     w: &[u64],
     ids: &[u64; NUMBERS],

@@ -6,14 +6,14 @@ use Prim.Native.Nat.{ℕ, _-_, _<_}
 use native.Mathlib.Omega.{arith}
 use lib.ListN.{getD}
 use lib.Dec.{eqb, leb}
-use Rattle.rules.specs.Limits.{WALLET-LEN, WALLETS, ESCROWS, RECEIPTS, FROM, TO, ESCROW-STATE, ESCROW-DEADLINE, IS-OPEN, RECEIPT-LINK}
+use Rattle.rules.specs.Limits.{ESCROW-LEN, WALLET-LEN, WALLETS, ESCROWS, RECEIPTS, FROM, TO, ESCROW-STATE, ESCROW-DEADLINE, IS-OPEN, RECEIPT-LINK}
 use Rattle.rules.specs.Table.{word}
 use Rattle.rules.specs.Ledger.{ledger, walletRow, escrow, receipt}
 use Rattle.rules.proofs.Bools.{and-fst}
 use Rattle.rules.proofs.Rows.{rows-fit}
 use Rattle.rules.proofs.Good.{Good, from-written, to-written, escrow-held, balance-most, amount-most}
 use Rattle.rules.proofs.Stays.{link-row}
-use Rattle.moves.specs.Needs.{ESCROW-LEN, Small, Counted, Ends, Accepts}
+use Rattle.moves.specs.Needs.{Small, Counted, Ends, Accepts}
 
 module _ (h w e r : List ℕ) (small : Small h) (good : Good (ledger h w e r [])) where
   pub counted-of : Counted h w

@@ -7,13 +7,13 @@ use Prim.Native.Nat.{ℕ, _+_, _-_, _<_, _≤_, _^_}
 use native.Mathlib.Omega.{arith}
 use lib.ListN.{getD}
 use lib.Dec.{eqb, lit<}
-use Rattle.rules.specs.Limits.{WALLET-LEN, WALLETS, BALANCE, LOCKED, FROM, TO, ESCROW-AMOUNT, ESCROW-STATE, ESCROW-CLOSED-AT, ESCROW-CLOSED-BY, RELEASED}
+use Rattle.rules.specs.Limits.{ESCROW-LEN, WALLET-LEN, WALLETS, BALANCE, LOCKED, FROM, TO, ESCROW-AMOUNT, ESCROW-STATE, ESCROW-CLOSED-AT, ESCROW-CLOSED-BY, RELEASED}
 use Rattle.rules.specs.Table.{word, put}
 use Rattle.rules.specs.Ledger.{ledger, rowOf, putWallet, putEscrow}
 use Rattle.rules.specs.Settle.{raise, lower, endEscrow}
 use Rattle.rules.proofs.Rows.{word-col}
 use Rattle.rules.proofs.Accounts.{row-put}
-use Rattle.moves.specs.Needs.{ESCROW-LEN, Ends, rowIn}
+use Rattle.moves.specs.Needs.{Ends, rowIn}
 use Rattle.moves.proofs.Wallets.{row-small}
 
 module _ (h w e : List ℕ) (i from to amount sender payee state : ℕ) (ends : Ends h w e i)

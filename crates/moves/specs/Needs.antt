@@ -6,16 +6,10 @@ use mathlib.Core.Bool.{Bool, true, _&&_}
 use Prim.Native.Nat.{ℕ, _+_, _-_, _*_, _<_, _≤_, _^_}
 use lib.ListN.{length, getD}
 use lib.Dec.{eqb, leb}
-use Rattle.rules.specs.Limits.{WALLET-LEN, RECEIPT-LEN, MAX-WALLETS, MAX-ESCROWS, MAX-RECEIPTS, WALLETS, ESCROWS, RECEIPTS, BALANCE, LOCKED}
+use Rattle.rules.specs.Limits.{HEADER-LEN, ESCROW-LEN, WALLET-LEN, RECEIPT-LEN, MAX-WALLETS, MAX-ESCROWS, MAX-RECEIPTS, WALLETS, ESCROWS, RECEIPTS, BALANCE, LOCKED}
 use Rattle.rules.specs.Limits.{FROM, TO, ESCROW-AMOUNT, ESCROW-STATE, ESCROW-DEADLINE, IS-OPEN, RECEIPT-LINK}
 use Rattle.rules.specs.Table.{word}
-use Rattle.rules.specs.Ledger.{rowOf, first-edition}
-
-abbrev pub HEADER-LEN : ℕ
-HEADER-LEN = first-edition .headerLen
-
-abbrev pub ESCROW-LEN : ℕ
-ESCROW-LEN = first-edition .escrowLen
+use Rattle.rules.specs.Ledger.{rowOf}
 
 -- the row of a wallet, of those that the header counts
 abbrev pub rowIn : List ℕ → List ℕ → ℕ → ℕ

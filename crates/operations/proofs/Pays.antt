@@ -7,14 +7,14 @@ use Prim.Native.Nat.{ℕ, _+_, _-_, _<_, _≤_, _^_}
 use native.Mathlib.Omega.{arith}
 use lib.ListN.{length, getD, set}
 use lib.Dec.{lit<}
-use Rattle.rules.specs.Limits.{WALLET-LEN, MAX-GRANTED-MICRO, WALLETS, ESCROWS, BALANCE, LOCKED, IS-OPEN}
+use Rattle.rules.specs.Limits.{ESCROW-LEN, WALLET-LEN, MAX-GRANTED-MICRO, WALLETS, ESCROWS, BALANCE, LOCKED, IS-OPEN}
 use Rattle.rules.specs.Table.{word, put, putRow}
 use Rattle.rules.specs.Ledger.{Ledger, ledger, putHead, putWallet, newEscrow}
 use Rattle.rules.specs.Settle.{ensureWallet, raise, lower, transfer, openEscrow, done}
 use Rattle.rules.specs.declared.Submission.{Submission}
 use Rattle.rules.proofs.Rows.{word-col, put-prop}
 use Rattle.rules.proofs.Accounts.{row-put}
-use Rattle.moves.specs.Needs.{ESCROW-LEN, rowIn}
+use Rattle.moves.specs.Needs.{rowIn}
 use Rattle.moves.proofs.Wallets.{row-small}
 use Rattle.operations.specs.Needs.{Paying, Opening}
 use Rattle.operations.proofs.Made.{Made, made, made-by}

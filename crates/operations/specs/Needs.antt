@@ -3,10 +3,10 @@ use mathlib.Core.Path.{_≡_}
 use mathlib.Core.List.{List}
 use Prim.Native.Nat.{ℕ, _+_, _<_, _≤_}
 use lib.ListN.{length, getD}
-use Rattle.rules.specs.Limits.{WALLET-LEN, MAX-ESCROWS, MAX-RECEIPTS, MAX-AMOUNT-MICRO, MAX-GRANTED-MICRO, WALLETS, ESCROWS, RECEIPTS, GRANTED, BALANCE, LOCKED}
+use Rattle.rules.specs.Limits.{HEADER-LEN, WALLET-LEN, MAX-ESCROWS, MAX-RECEIPTS, MAX-AMOUNT-MICRO, MAX-GRANTED-MICRO, WALLETS, ESCROWS, RECEIPTS, GRANTED, BALANCE, LOCKED}
 use Rattle.rules.specs.Table.{word, rowsIn}
 use Rattle.rules.specs.declared.Submission.{Submission}
-use Rattle.moves.specs.Needs.{HEADER-LEN, Counted, rowIn}
+use Rattle.moves.specs.Needs.{Counted, rowIn}
 
 -- the target can take the amount: it has a wallet or there is room for one, and no balance is more than all grants
 pub record Receiving (header wallets : List ℕ) (s : Submission) : Type 0 where

@@ -12,9 +12,8 @@ use Rattle.rules.specs.Limits.{WALLETS, ESCROWS, ENTRIES, BALANCE, FROZEN, TX-C
 use Rattle.rules.specs.Table.{word}
 use Rattle.rules.specs.Ledger.{Ledger, ledger, first-edition, rowOf, walletCount, escrowCount, entryCount, hasWallet, walletOf, full}
 use Rattle.rules.specs.Sound.{between}
-use Rattle.rules.specs.Refusals.{Refusal, row, first, counted, countedIn, sender, operationRefusals}
+use Rattle.rules.specs.Refusals.{Refusal, row, first, countedOf, counted, sender, operationRefusals}
 use Rattle.rules.specs.declared.Submission.{Submission}
-use Rattle.payments.specs.Counted.{countedOf}
 
 unfoldable pub ofPaying : Ledger → Submission → List Refusal
 ofPaying L s =
@@ -65,7 +64,7 @@ pub paying-by :
     → r13 ≡ cond (not (ltb from (getD h WALLETS 0))) 13 r14
     → r12 ≡ cond (not (between 1 MAX-AMOUNT-MICRO (s .amount))) 12 r13
     → r12 ≡ first (operationRefusals (ledger h w e r j) s)
-unfolding ofPaying counted countedIn countedOf
+unfolding ofPaying counted countedOf
 paying-by h w e r j s recipient from frozen balance tx daily spent r12 r13 r14 r15 r17 r18 r19 r20 r21 r37 r38 r40 over o a b f g i k l m
     c40 c38 c37 c21 c20 c19 c18 c17 c15 c14 c13 c12 =
     let picks : r12 ≡ first (ofPaying (ledger h w e r j) s) = cc in

@@ -12,7 +12,7 @@ use Rattle.rules.specs.Table.{word}
 use Rattle.rules.proofs.Bools.{and-fst, and-snd}
 use Rattle.rules.proofs.Counts.{sum-none, sum-step, sum-most}
 use Rattle.payments.specs.Entries.{Entries}
-use Rattle.payments.specs.Counted.{counts, countedOf}
+use Rattle.rules.specs.Refusals.{counts, countedOf}
 
 pub exceeds-over : (a b most : ℕ) → most < a → true ≡ ltb most (a + b)
 exceeds-over a b most h = sym (lt-ltb most (a + b) (omega arith))

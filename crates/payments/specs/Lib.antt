@@ -1,3 +1,2 @@
--- What the daily sum is given of a journal, and what it is.
+-- What the daily sum is given of a journal.
 pub mod Entries
-pub mod Counted

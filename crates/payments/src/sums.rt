@@ -3,7 +3,7 @@ ghost use mathlib.Core.Path.{_≡_};
 ghost use Prim.Native.Nat.{_+_};
 ghost use lib.Dec.{ltb};
 ghost use Rattle.payments.specs.Entries.{Entries};
-ghost use Rattle.payments.specs.Counted.{countedOf};
+ghost use Rattle.rules.specs.Refusals.{countedOf};
 use rules::limits::DAY_MS;
 use rules::limits::ENTRY_AMOUNT;
 use rules::limits::JOURNAL_LEN;

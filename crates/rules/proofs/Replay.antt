@@ -15,7 +15,7 @@ use Rattle.rules.specs.Limits.{JOURNAL-LEN, ENTRIES, SIGNER, NONCE, SWEE
 use Rattle.rules.specs.Table.{word, some, rowsIn}
 use Rattle.rules.specs.Ledger.{Edition, Ledger, entry, entryCount, putHead, newEntry}
 use Rattle.rules.specs.Record.{readOf}
-use Rattle.rules.specs.Refusals.{seen}
+use Rattle.rules.specs.Refusals.{seenIn, seen}
 use Rattle.rules.specs.Settle.{enter, settle}
 use Rattle.rules.specs.Submit.{answerOf, submit}
 use Rattle.rules.specs.History.{Call, leaves, after}
@@ -32,7 +32,7 @@ use Rattle.rules.proofs.Lengths.{lengths-submit, lengths-stay, by-call}
 -- ---- a new journal row is seen, and hides none
 
 seen-kept : {L K : Ledger} → Keeps L K → (g n : ℕ) → seen L g n ≡ seen K g n
-unfolding seen
+unfolding seen seenIn
 seen-kept {L} {K} k g n =
     ap₂ (λ (m : ℕ) (j : List ℕ). some m (λ i. eqb (word j JOURNAL-LEN i SIGNER) g && eqb (word j JOURNAL-LEN i NONCE) n)) (sym (k .count)) (sym (k .rows))
 
@@ -42,14 +42,14 @@ module _ (L : Ledger) (vs : List ℕ) (wide : ENTRIES < length (L .header)) wher
   new-count = getD-set-same (L .header) ENTRIES (entryCount L + 1) 0 wide
 
   seen-old : (g n : ℕ) → seen L g n ≡ true → seen (newEntry vs L) g n ≡ true
-  unfolding seen newEntry putHead
+  unfolding seen seenIn newEntry putHead
   seen-old g n h =
       some-mono (entryCount L) (entryCount (newEntry vs L)) (λ i. eqb (entry L i SIGNER) g && eqb (entry L i NONCE) n) _ (omega (arith, new-count))
       (λ i l. ap₂ (λ (x y : ℕ). eqb x g && eqb y n) (sym (word-old (L .journal) JOURNAL-LEN (entryCount L) i SIGNER vs l (lit< tt)))
       (sym (word-old (L .journal) JOURNAL-LEN (entryCount L) i NONCE vs l (lit< tt)))) h
 
   seen-new : length vs ≡ JOURNAL-LEN → entryCount L * JOURNAL-LEN + JOURNAL-LEN ≤ length (L .journal) → seen (newEntry vs L) (getD vs SIGNER 0) (getD vs NONCE 0) ≡ true
-  unfolding seen newEntry putHead
+  unfolding seen seenIn newEntry putHead
   seen-new whole fits =
       some-of (entryCount (newEntry vs L)) _ (entryCount L) (omega (arith, new-count))
       (ap₂ _&&_ (eq-eqb _ _ (word-new (L .journal) JOURNAL-LEN (entryCount L) SIGNER vs (omega arith) (omega arith)))

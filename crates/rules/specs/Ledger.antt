@@ -4,7 +4,7 @@ use mathlib.Core.Bool.{Bool, cond, _&&_}
 use Prim.Native.Nat.{ℕ, _+_, _-_, _*_}
 use lib.ListN.{getD, set, length, replicate}
 use lib.Dec.{eqb, ltb, leb}
-use Rattle.rules.specs.Limits.{WALLET-LEN, RECEIPT-LEN, JOURNAL-LEN, MAX-WALLETS, MAX-ESCROWS, MAX-RECEIPTS, MAX-ENTRIES}
+use Rattle.rules.specs.Limits.{FIRST-EDITION, HEADER-LEN, ESCROW-LEN, WALLET-LEN, RECEIPT-LEN, JOURNAL-LEN, MAX-WALLETS, MAX-ESCROWS, MAX-RECEIPTS, MAX-ENTRIES}
 use Rattle.rules.specs.Limits.{WALLETS, ESCROWS, RECEIPTS, ENTRIES, ID}
 use Rattle.rules.specs.Table.{word, put, putRow, rowsIn, tableRight, all, seek}
 
@@ -15,7 +15,7 @@ pub record Edition : Type 0 where
   pub escrowLen : ℕ
 
 abbrev pub first-edition : Edition
-first-edition = record { number = 1; headerLen = 8; escrowLen = 8 }
+first-edition = record { number = FIRST-EDITION; headerLen = HEADER-LEN; escrowLen = ESCROW-LEN }
 
 pub record Ledger : Type 0 where
   pub edition : Edition

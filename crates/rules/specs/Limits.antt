@@ -1,9 +1,20 @@
 -- The numbers of document 01 by name: limits, times, columns, operations, states. Credits are micro-credits and times milliseconds.
 use Prim.Native.Nat.{ℕ}
 
+-- the first edition's number
+abbrev pub FIRST-EDITION : ℕ
+FIRST-EDITION = 1
+
 -- row lengths in words, and the most rows
 abbrev pub WALLET-LEN : ℕ
 WALLET-LEN = 6
+
+-- the first edition's header and escrow row
+abbrev pub HEADER-LEN : ℕ
+HEADER-LEN = 8
+
+abbrev pub ESCROW-LEN : ℕ
+ESCROW-LEN = 8
 
 abbrev pub RECEIPT-LEN : ℕ
 RECEIPT-LEN = 14

@@ -10,8 +10,8 @@ use Rattle.rules.specs.Limits.{GRANT, TRANSFER, OPEN, RELEASE, REFUND, C
 use Rattle.rules.specs.Limits.{SIGNATURE-HELD, ADMIN, REASON-GIVEN, SYSTEM-FROZEN, CLOCK, GRANTED, BALANCE, FROZEN, TX-CAP, DAILY-CAP}
 use Rattle.rules.specs.Limits.{FROM, TO, ESCROW-DEADLINE, ESCROW-STATE, REQUESTER, RECEIPT-STATE, IS-OPEN, PENDING}
 use Rattle.rules.specs.Limits.{SIGNER, NONCE, OPERATION, ENTRY-AMOUNT, SETTLED-AT}
-use Rattle.rules.specs.Table.{some, sum, all}
-use Rattle.rules.specs.Ledger.{Ledger, head, escrow, receipt, entry, walletCount, escrowCount, receiptCount, entryCount, hasWallet, walletOf, written, full, lengthsRight}
+use Rattle.rules.specs.Table.{word, some, sum, all}
+use Rattle.rules.specs.Ledger.{Ledger, head, escrow, receipt, walletCount, escrowCount, receiptCount, entryCount, hasWallet, walletOf, written, full, lengthsRight}
 use Rattle.rules.specs.Record.{bit}
 use Rattle.rules.specs.Sound.{sound, between}
 use Rattle.rules.specs.declared.Submission.{Submission}
@@ -45,19 +45,28 @@ signed = GRANT ∷ TRANSFER ∷ OPEN ∷ RELEASE ∷ REFUND ∷ CLAIM ∷ ACCEPT
 abbrev pub clear : Submission → ℕ → Bool
 clear s k = eqb (bit k (s .flags)) 0
 
--- a journal row has signer and nonce
-unfoldable pub seen : Ledger → ℕ → ℕ → Bool
-seen L signer nonce = some (entryCount L) (λ i. eqb (entry L i SIGNER) signer && eqb (entry L i NONCE) nonce)
+-- one of n journal rows has signer and nonce
+unfoldable pub seenIn : List ℕ → ℕ → ℕ → ℕ → Bool
+seenIn journal n signer nonce = some n (λ i. eqb (word journal JOURNAL-LEN i SIGNER) signer && eqb (word journal JOURNAL-LEN i NONCE) nonce)
 
--- the amount of journal row i, if it is the signer's transfer and not older than 24 hours
-unfoldable pub countedIn : Ledger → ℕ → ℕ → ℕ → ℕ
-countedIn L signer now i =
-    cond
-    (all (eqb (entry L i SIGNER) signer ∷ eqb (entry L i OPERATION) TRANSFER ∷ leb now (entry L i SETTLED-AT + DAY-MS) ∷ []))
-    (entry L i ENTRY-AMOUNT) 0
+unfoldable pub seen : Ledger → ℕ → ℕ → Bool
+seen L signer nonce = seenIn (L .journal) (entryCount L) signer nonce
+
+-- journal row i is the signer's transfer, and not older than 24 hours
+abbrev pub counts : List ℕ → ℕ → ℕ → ℕ → Bool
+counts journal signer now i =
+    all
+    (eqb (word journal JOURNAL-LEN i SIGNER) signer
+    ∷ eqb (word journal JOURNAL-LEN i OPERATION) TRANSFER
+    ∷ leb now (word journal JOURNAL-LEN i SETTLED-AT + DAY-MS)
+    ∷ [])
+
+-- the amounts of those of n journal rows, added up
+unfoldable pub countedOf : List ℕ → ℕ → ℕ → ℕ → ℕ
+countedOf journal n signer now = sum n (λ i. cond (counts journal signer now i) (word journal JOURNAL-LEN i ENTRY-AMOUNT) 0)
 
 unfoldable pub counted : Ledger → ℕ → ℕ → ℕ
-counted L signer now = sum (entryCount L) (countedIn L signer now)
+counted L signer now = countedOf (L .journal) (entryCount L) signer now
 
 -- the signer has a wallet, and b holds of it
 abbrev pub sender : Ledger → Submission → Bool → Bool

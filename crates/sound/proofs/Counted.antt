@@ -1,19 +1,19 @@
 -- What right lengths and a right header say of the counts.
 use mathlib.Core.Path.{_≡_}
-use mathlib.Core.Bool.{Bool, true}
+use mathlib.Core.Bool.{true}
 use mathlib.Core.List.{List}
-use Prim.Native.Nat.{ℕ, _+_, _*_, _%_, _≤_}
+use Prim.Native.Nat.{ℕ, _*_, _%_, _≤_}
 use native.Mathlib.Nat.{le-trans}
 use lib.Dec.{eqb, leb}
 use lib.ListN.{getD, length}
 use borrow.Author.Tests.{eqb-true, leb-true}
-use Rattle.rules.specs.Limits.{WALLET-LEN, RECEIPT-LEN, JOURNAL-LEN, MAX-WALLETS, MAX-ESCROWS, MAX-RECEIPTS, MAX-ENTRIES}
+use Rattle.rules.specs.Limits.{ESCROW-LEN, WALLET-LEN, RECEIPT-LEN, JOURNAL-LEN, MAX-WALLETS, MAX-ESCROWS}
 use Rattle.rules.specs.Table.{rowsIn, all, tableRight}
 use Rattle.rules.specs.Ledger.{ledger, lengthTests, lengthsRight, walletCount, escrowCount, receiptCount, entryCount}
 use Rattle.rules.specs.Sound.{headerTests}
 use Rattle.rules.proofs.Bools.{and-fst, and-snd, all-at}
 use Rattle.rules.proofs.Rows.{rows-fit}
-use Rattle.sound.specs.Parts.{ESCROW-LEN, Tables}
+use Rattle.sound.specs.Parts.{Tables}
 
 -- a table of the right length has a row, and at most so many
 has-row : (len most : ℕ) (t : List ℕ) → tableRight len most t ≡ true → len ≤ length t

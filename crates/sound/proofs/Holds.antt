@@ -1,26 +1,25 @@
 -- One escrow more: whether it is right, from its own row and from what a look-up of its two wallets answers; and what it adds to the sums.
 use mathlib.Core.Path.{_≡_, refl, sym, ap, _∙_}
-use mathlib.Core.Bool.{Bool, true, false, not, cond, _&&_}
+use mathlib.Core.Bool.{Bool, true, false, cond, _&&_}
 use mathlib.Core.List.{List}
-use mathlib.Core.Logic.{⊎-elim}
 use Prim.Native.Nat.{ℕ, _+_, _*_, _≤_, _<_}
 use native.Mathlib.Omega.{arith}
-use native.Mathlib.Nat.{le-refl, mul-le-mul-right}
-use native.Mathlib.Decide.{ℕ-discrete, decLt}
+use native.Mathlib.Nat.{le-refl}
+use native.Mathlib.Decide.{ℕ-discrete}
 use lib.Dec.{eqb, ltb, leb}
-use lib.ListN.{getD, set, length, length-set, drop}
+use lib.ListN.{getD, set, length-set, drop}
 use lib.Seq.{getD-set-same, getD-set-other}
 use borrow.Author.Tests.{eq-eqb, ne-eqb, eqb-true, ltb-true, leb-true}
-use Rattle.rules.specs.Limits.{WALLET-LEN, MAX-WALLETS, MAX-ESCROWS, MAX-AMOUNT-MICRO, ID, FROM, TO, ESCROW-AMOUNT, ESCROW-STATE, IS-OPEN}
+use Rattle.rules.specs.Limits.{ESCROW-LEN, WALLET-LEN, MAX-WALLETS, MAX-ESCROWS, MAX-AMOUNT-MICRO, ID, FROM, TO, ESCROW-AMOUNT, ESCROW-STATE, IS-OPEN}
 use Rattle.rules.specs.Table.{word, all, every, distinct, sum}
 use Rattle.rules.specs.Ledger.{rowOf}
 use Rattle.rules.specs.Sound.{escrowTests, heldIn}
-use Rattle.rules.proofs.Bools.{and-intro, and-snd, and-none-fst, and-none-snd, all-at}
+use Rattle.rules.proofs.Bools.{and-intro, and-snd, and-none-snd, all-at}
 use Rattle.rules.proofs.Counts.{every-at, sum-step, sum-most}
 use Rattle.rules.proofs.Seek.{seek-hit}
-use Rattle.index.specs.Index.{NUMBERS, numberOf, senderOf}
+use Rattle.index.specs.Index.{numberOf, senderOf}
 use Rattle.index.proofs.Laws.{first-row}
-use Rattle.sound.specs.Parts.{ESCROW-LEN, parties, heldOf, Held}
+use Rattle.sound.specs.Parts.{parties, heldOf, Held}
 
 -- an escrow's two wallets are written, and the sender has this number
 pub record Sent (w : List ℕ) (n from to number : ℕ) : Type 0 where

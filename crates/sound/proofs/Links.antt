@@ -1,15 +1,14 @@
 -- A receipt's link: a number past the written escrows, and one within them or 0.
-use mathlib.Core.Path.{_≡_, refl, sym, _∙_}
+use mathlib.Core.Path.{_≡_, refl}
 use mathlib.Core.Bool.{Bool, true, false, _&&_, _||_}
 use mathlib.Core.List.{List}
 use Prim.Native.Nat.{ℕ, _-_, _≤_, _<_}
 use native.Mathlib.Omega.{arith}
 use lib.Dec.{eqb}
 use borrow.Author.Tests.{eqb-false, ne-eqb, lt-ltb, le-leb, lt-leb}
-use Rattle.rules.specs.Limits.{FROM, TO}
+use Rattle.rules.specs.Limits.{ESCROW-LEN, FROM, TO}
 use Rattle.rules.specs.Table.{word}
 use Rattle.rules.specs.Ledger.{written}
-use Rattle.sound.specs.Parts.{ESCROW-LEN}
 
 pub link-past : (m k : ℕ) (b : Bool) → m < k → false ≡ (eqb k 0 || (written m k && b))
 link-past m k b l = rw (ne-eqb k 0 (omega arith), lt-ltb 0 k (omega arith), lt-leb k m l)

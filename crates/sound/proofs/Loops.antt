@@ -2,11 +2,9 @@
 use mathlib.Core.Path.{_≡_, sym, ap, _∙_}
 use mathlib.Core.Bool.{Bool, true, false}
 use Prim.Native.Nat.{ℕ, _+_, _≤_, _<_}
-use native.Mathlib.Numerals.{add-one}
 use native.Mathlib.Omega.{arith}
 use Rattle.rules.specs.Table.{every}
-use Rattle.rules.proofs.Bools.{and-intro}
-use Rattle.rules.proofs.Counts.{every-none, every-step, every-fails}
+use Rattle.rules.proofs.Counts.{every-step, every-fails}
 
 pub pass-on : (i : ℕ) (p : ℕ → Bool) → every i p ≡ true → p i ≡ true → every (i + 1) p ≡ true
 pass-on i p x y = sym (every-step i p (sym x) (sym y))

@@ -1,17 +1,16 @@
 -- The parties' pass as a whole: two ids that are the same, an index to go by, an escrow that is wrong, and each wallet's locked at the end.
-use mathlib.Core.Path.{_≡_, refl, sym, ap, _∙_}
-use mathlib.Core.Bool.{Bool, true, false, not, _&&_}
+use mathlib.Core.Path.{_≡_, sym, ap, _∙_}
+use mathlib.Core.Bool.{Bool, true, false, not}
 use mathlib.Core.List.{List}
-use Prim.Native.Nat.{ℕ, _+_, _≤_, _<_}
+use Prim.Native.Nat.{ℕ, _+_}
 use native.Mathlib.Omega.{arith}
 use lib.Dec.{eqb, ltb}
-use lib.ListN.{getD, replicate, length-replicate}
+use lib.ListN.{replicate, length-replicate}
 use borrow.Author.Tests.{not-true, not-false, lt-ltb}
 use Rattle.rules.specs.Limits.{WALLET-LEN, ID, LOCKED}
 use Rattle.rules.specs.Table.{word, all, every, distinct}
 use Rattle.rules.specs.Sound.{escrowTests}
 use Rattle.rules.proofs.Rows.{zeros}
-use Rattle.rules.proofs.Bools.{and-none-fst, and-none-snd}
 use Rattle.rules.proofs.Counts.{sum-none}
 use Rattle.index.specs.Index.{NUMBERS, idAt, Copied, Filled, Indexed}
 use Rattle.index.proofs.Laws.{every-ext, distinct-ext, indexed-apart}

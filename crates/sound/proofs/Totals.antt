@@ -1,5 +1,5 @@
 -- The total that counts down from what was granted: too much of it, more than was granted, and what is left at the end.
-use mathlib.Core.Path.{_≡_, refl, sym, ap, _∙_}
+use mathlib.Core.Path.{_≡_, refl, sym}
 use mathlib.Core.Bool.{Bool, true, false, _&&_, and-true}
 use mathlib.Core.List.{List}
 use Prim.Native.Nat.{ℕ, _+_, _≤_, _<_}
@@ -10,7 +10,7 @@ use Rattle.rules.specs.Limits.{WALLET-LEN, MAX-GRANTED-MICRO, BALANCE, LOCKED}
 use Rattle.rules.specs.Table.{word, sum}
 use Rattle.rules.specs.Sound.{credits}
 use Rattle.rules.proofs.Bools.{and-none-fst, and-none-snd}
-use Rattle.rules.proofs.Counts.{sum-none, sum-step, sum-part}
+use Rattle.rules.proofs.Counts.{sum-step, sum-part}
 use Rattle.sound.specs.Parts.{walletsIn}
 
 -- the credits of wallet i

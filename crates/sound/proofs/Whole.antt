@@ -1,43 +1,89 @@
 -- The parts together: the ledger is not sound where one part fails, and is what the last part says where all others hold.
-use mathlib.Core.Path.{_≡_, refl, sym, ap, _∙_}
-use mathlib.Core.Bool.{Bool, true, false, not, _&&_, and-false}
+use mathlib.Core.Path.{_≡_, refl, sym, _∙_}
+use mathlib.Core.Bool.{Bool, true, false, not, _&&_, and-false, and-true}
 use mathlib.Core.List.{List}
 use Prim.Native.Nat.{ℕ}
 use lib.Dec.{eqb, leb}
 use lib.ListN.{getD}
 use borrow.Author.Tests.{not-true, not-false}
-use Rattle.rules.specs.Limits.{GRANTED, MAX-GRANTED-MICRO, ID, LOCKED}
-use Rattle.rules.specs.Table.{all, every, distinct, sum}
-use Rattle.rules.specs.Ledger.{Ledger, ledger, head, wallet, walletCount, escrowCount, receiptCount, entryCount}
-use Rattle.rules.specs.Sound.{headerTests, walletTests, escrowTests, receiptTests, entryTests, heldIn, credits, soundTests, sound}
-use Rattle.rules.proofs.Bools.{and-fst, and-snd}
+use Rattle.rules.specs.Limits.{GRANTED, MAX-GRANTED-MICRO}
+use Rattle.rules.specs.Table.{all, every}
+use Rattle.rules.specs.Ledger.{ledger, head, walletCount, escrowCount, receiptCount, entryCount}
+use Rattle.rules.specs.Sound.{headerTests, walletTests, receiptTests, entryTests, heldIn, credits, soundTests, sound}
+use Rattle.rules.proofs.Bools.{and-none-fst, and-none-snd}
 use Rattle.sound.specs.Parts.{walletsIn, receiptsIn, entriesIn, partiesRight}
 
 -- the order of the passes and that of the definition
-reorder : (w d e l r j t : Bool) → w && ((d && (e && l)) && (r && (j && t))) ≡ w && (d && (e && (r && (j && (l && t)))))
-reorder false d e l r j t = refl
-reorder true false e l r j t = refl
-reorder true true false l r j t = refl
-reorder true true true true r j t = refl
-reorder true true true false r j t = simp and-false
+reorder : (w t d e l r j : Bool) → w && (t && ((d && (e && l)) && (r && j))) ≡ w && (d && (e && (r && (j && (l && t)))))
+reorder false t d e l r j = refl
+reorder true t false e l r j = simp and-false
+reorder true t true false l r j = simp and-false
+reorder true t true true false r j = simp and-false
+reorder true false true true true r j = simp and-false
+reorder true true true true true r j = simp and-true
+
+-- the one of five that fails, each where those before it hold or not
+module _ (w t p r j s : Bool) (e : w && (t && (p && (r && j))) ≡ s) where
+  fail-1 : w ≡ false → false ≡ s
+  fail-1 x = sym (and-none-fst w (t && (p && (r && j))) x) ∙ e
+
+  fail-2 : t ≡ false → false ≡ s
+  fail-2 x = sym (and-none-snd w (t && (p && (r && j))) (and-none-fst t (p && (r && j)) x)) ∙ e
+
+  fail-3 : p ≡ false → false ≡ s
+  fail-3 x = sym (and-none-snd w (t && (p && (r && j))) (and-none-snd t (p && (r && j)) (and-none-fst p (r && j) x))) ∙ e
+
+  fail-4 : r ≡ false → false ≡ s
+  fail-4 x =
+      sym (and-none-snd w (t && (p && (r && j))) (and-none-snd t (p && (r && j)) (and-none-snd p (r && j) (and-none-fst r j x)))) ∙ e
+
+  last-5 : w ≡ true → t ≡ true → p ≡ true → r ≡ true → j ≡ s
+  last-5 a b c d = sym (rw (a, b, c, d)) ∙ e
 
 module _ (h w e r j : List ℕ) where
   pub no-header : (b : Bool) → b ≡ all (headerTests (ledger h w e r j)) → not b ≡ true → false ≡ sound (ledger h w e r j)
   unfolding sound
   no-header b x z = let y : all (headerTests (ledger h w e r j)) ≡ false = sym x ∙ not-true b z in rw y
 
-  pub together : (b each parties linked entries total : Bool)
-      → b ≡ all (headerTests (ledger h w e r j)) → not b ≡ false
-      → each ≡ every (walletCount (ledger h w e r j)) (λ i. all (walletTests (walletsIn w (walletCount (ledger h w e r j))) i))
-      → parties ≡ partiesRight w (walletCount (ledger h w e r j)) e (escrowCount (ledger h w e r j))
-      → linked ≡ every (receiptCount (ledger h w e r j)) (λ i. all (receiptTests (receiptsIn e (escrowCount (ledger h w e r j)) r) i))
-      → entries ≡ every (entryCount (ledger h w e r j)) (λ i. all (entryTests (entriesIn j) i))
-      → total ≡ (eqb (credits (walletsIn w (walletCount (ledger h w e r j)))) (head (ledger h w e r j) GRANTED) && leb (head (ledger h w e r j) GRANTED) MAX-GRANTED-MICRO)
-      → each && (parties && (linked && (entries && total))) ≡ sound (ledger h w e r j)
-  unfolding sound credits heldIn partiesRight
-  together b each parties linked entries total x z p q s t u =
-      let y : all (headerTests (ledger h w e r j)) ≡ true = sym x ∙ not-false b z in
-      rw (y, p, q, s, t, u) (reorder (test 1) (test 2) (test 3) (test 6) (test 4) (test 5) (test 7 && test 8))
-    where
-      test : ℕ → Bool
-      test k = getD (soundTests (ledger h w e r j)) k true
+  -- what each pass answers for
+  abbrev W : Bool
+  W = every (walletCount (ledger h w e r j)) (λ i. all (walletTests (walletsIn w (walletCount (ledger h w e r j))) i))
+
+  abbrev T : Bool
+  T =
+      eqb (credits (walletsIn w (walletCount (ledger h w e r j)))) (head (ledger h w e r j) GRANTED)
+      && leb (head (ledger h w e r j) GRANTED) MAX-GRANTED-MICRO
+
+  abbrev P : Bool
+  P = partiesRight w (walletCount (ledger h w e r j)) e (escrowCount (ledger h w e r j))
+
+  abbrev R : Bool
+  R = every (receiptCount (ledger h w e r j)) (λ i. all (receiptTests (receiptsIn e (escrowCount (ledger h w e r j)) r) i))
+
+  abbrev J : Bool
+  J = every (entryCount (ledger h w e r j)) (λ i. all (entryTests (entriesIn j) i))
+
+  module _ (y : all (headerTests (ledger h w e r j)) ≡ true) where
+    whole : W && (T && (P && (R && J))) ≡ sound (ledger h w e r j)
+    unfolding sound credits heldIn partiesRight
+    whole = rw y (reorder (test 1) (test 7 && test 8) (test 2) (test 3) (test 6) (test 4) (test 5))
+      where
+        test : ℕ → Bool
+        test k = getD (soundTests (ledger h w e r j)) k true
+
+    pub no-wallets : (b : Bool) → b ≡ W → not b ≡ true → false ≡ sound (ledger h w e r j)
+    no-wallets b x z = fail-1 W T P R J _ whole (sym x ∙ not-true b z)
+
+    pub no-total : (b : Bool) → b ≡ T → not b ≡ true → false ≡ sound (ledger h w e r j)
+    no-total b x z = fail-2 W T P R J _ whole (sym x ∙ not-true b z)
+
+    pub no-parties : (b : Bool) → b ≡ P → not b ≡ true → false ≡ sound (ledger h w e r j)
+    no-parties b x z = fail-3 W T P R J _ whole (sym x ∙ not-true b z)
+
+    pub no-receipts : (b : Bool) → b ≡ R → not b ≡ true → false ≡ sound (ledger h w e r j)
+    no-receipts b x z = fail-4 W T P R J _ whole (sym x ∙ not-true b z)
+
+    pub the-entries : (a b c d f : Bool) → a ≡ W → not a ≡ false → b ≡ T → not b ≡ false → c ≡ P → not c ≡ false → d ≡ R → not d ≡ false
+        → f ≡ J → f ≡ sound (ledger h w e r j)
+    the-entries a b c d f x k y l z m u n v =
+        v ∙ last-5 W T P R J _ whole (sym x ∙ not-false a k) (sym y ∙ not-false b l) (sym z ∙ not-false c m) (sym u ∙ not-false d n)

@@ -5,14 +5,11 @@ use mathlib.Core.List.{List, [], _∷_}
 use Prim.Native.Nat.{ℕ, _+_, _*_, _≤_, _<_}
 use lib.Dec.{eqb}
 use lib.ListN.{getD, length}
-use Rattle.rules.specs.Limits.{WALLET-LEN, MAX-WALLETS, MAX-ESCROWS, ID, LOCKED}
+use Rattle.rules.specs.Limits.{ESCROW-LEN, WALLET-LEN, MAX-WALLETS, MAX-ESCROWS, ID, LOCKED}
 use Rattle.rules.specs.Table.{word, all, every, distinct, sum}
-use Rattle.rules.specs.Ledger.{Ledger, ledger, first-edition}
+use Rattle.rules.specs.Ledger.{Ledger, ledger}
 use Rattle.rules.specs.Sound.{escrowTests, heldIn}
 use Rattle.index.specs.Index.{NUMBERS}
-
-abbrev pub ESCROW-LEN : ℕ
-ESCROW-LEN = first-edition .escrowLen
 
 -- a header with the rows written in wallets and escrows
 abbrev pub counts : ℕ → ℕ → List ℕ

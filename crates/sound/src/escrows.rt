@@ -1,14 +1,14 @@
 // Escrows: each by itself, its two wallets, and each wallet's locked as the sum of its open escrows.
 ghost use mathlib.Core.Path.{_≡_};
-ghost use mathlib.Core.Bool.{true, cond, _&&_};
+ghost use mathlib.Core.Bool.{true, cond};
 ghost use Prim.Native.Nat.{_+_, _*_, _≤_};
 ghost use lib.Dec.{eqb};
-ghost use lib.ListN.{length, getD, drop};
-ghost use Rattle.rules.specs.Limits.{WALLET-LEN, MAX-WALLETS, IS-OPEN, ESCROW-STATE, ESCROW-AMOUNT};
-ghost use Rattle.rules.specs.Table.{word, all, every, distinct};
+ghost use lib.ListN.{length, drop};
+ghost use Rattle.rules.specs.Limits.{ESCROW-LEN, WALLET-LEN, MAX-WALLETS, IS-OPEN, ESCROW-STATE, ESCROW-AMOUNT};
+ghost use Rattle.rules.specs.Table.{word, all, every};
 ghost use Rattle.rules.specs.Sound.{escrowTests};
 ghost use Rattle.index.specs.Index.{Indexed};
-ghost use Rattle.sound.specs.Parts.{ESCROW-LEN, parties, Tables, Held, HeldAll, lockedIs, partiesRight};
+ghost use Rattle.sound.specs.Parts.{parties, Tables, Held, HeldAll, lockedIs, partiesRight};
 use index::NUMBERS;
 use index::PLACES;
 use rules::limits::ESCROW_AMOUNT;
@@ -16,6 +16,7 @@ use rules::limits::ESCROW_CLOSED_AT;
 use rules::limits::ESCROW_DEADLINE;
 use rules::limits::ESCROW_LEN;
 use rules::limits::ESCROW_STATE;
+use rules::limits::EXPIRED;
 use rules::limits::FROM;
 use rules::limits::IS_OPEN;
 use rules::limits::LAST_TIME_MS;
@@ -38,7 +39,7 @@ fn escrow_right(e: &[u64], k: usize) -> bool
             & ((e[at + ESCROW_DEADLINE] <= LAST_TIME_MS)
                 & ((e[at + OPENED_AT] <= LAST_TIME_MS)
                     & ((e[at + ESCROW_CLOSED_AT] <= LAST_TIME_MS)
-                        & ((1 <= state) & (state <= 4))))))
+                        & ((IS_OPEN <= state) & (state <= EXPIRED))))))
 }
 
 // What an escrow holds of its sender.

@@ -5,11 +5,13 @@ ghost use lib.ListN.{length};
 ghost use Rattle.rules.specs.Table.{all};
 ghost use Rattle.rules.specs.Ledger.{ledger, lengthsRight};
 ghost use Rattle.rules.specs.Sound.{headerTests, sound};
+ghost use Rattle.rules.specs.Limits.{HEADER-LEN};
 use rules::limits::CLOCK;
 use rules::limits::EDITION;
 use rules::limits::ENTRIES;
 use rules::limits::ESCROW_LEN;
 use rules::limits::ESCROWS;
+use rules::limits::FIRST_EDITION;
 use rules::limits::GRANTED;
 use rules::limits::JOURNAL_LEN;
 use rules::limits::LAST_TIME_MS;
@@ -32,10 +34,10 @@ fn header_right(
     receipts: &[u64],
     journal: &[u64],
 ) -> bool
-    requires { ⌜ length (now header) ≡ 8 ⌝ }
+    requires { ⌜ length (now header) ≡ HEADER-LEN ⌝ }
     ensures { λ r. ⌜ r ≡ all (headerTests (ledger (now (header .entry)) (now (wallets .entry)) (now (escrows .entry)) (now (receipts .entry)) (now (journal .entry)))) ⌝ }
 {
-    (header[EDITION] == 1)
+    (header[EDITION] == FIRST_EDITION)
         & ((header[SYSTEM_FROZEN] <= 1)
             & ((header[CLOCK] <= LAST_TIME_MS)
                 & ((header[WALLETS] as usize <= wallets.len() / WALLET_LEN)
@@ -60,10 +62,17 @@ pub fn is_sound(
     }
     let n = header[WALLETS] as usize;
     let m = header[ESCROWS] as usize;
-    let each = wallets::wallets_right(wallets, n);
-    let parties = escrows::parties_right(wallets, n, escrows, m);
-    let linked = receipts::receipts_right(escrows, m, receipts, header[RECEIPTS] as usize);
-    let entries = journal::entries_right(journal, header[ENTRIES] as usize);
-    let total = wallets::total_right(wallets, n, header[GRANTED]);
-    each & (parties & (linked & (entries & total)))
+    if !wallets::wallets_right(wallets, n) {
+        return false;
+    }
+    if !wallets::total_right(wallets, n, header[GRANTED]) {
+        return false;
+    }
+    if !escrows::parties_right(wallets, n, escrows, m) {
+        return false;
+    }
+    if !receipts::receipts_right(escrows, m, receipts, header[RECEIPTS] as usize) {
+        return false;
+    }
+    journal::entries_right(journal, header[ENTRIES] as usize)
 }

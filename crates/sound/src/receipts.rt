@@ -2,16 +2,18 @@
 ghost use mathlib.Core.Path.{_≡_};
 ghost use Prim.Native.Nat.{_+_, _-_, _*_, _≤_};
 ghost use lib.ListN.{length};
-ghost use Rattle.rules.specs.Limits.{RECEIPT-LEN};
+ghost use Rattle.rules.specs.Limits.{ESCROW-LEN, RECEIPT-LEN};
 ghost use Rattle.rules.specs.Table.{all, every};
 ghost use Rattle.rules.specs.Sound.{linkRight, receiptTests};
-ghost use Rattle.sound.specs.Parts.{ESCROW-LEN, receiptsIn};
+ghost use Rattle.sound.specs.Parts.{receiptsIn};
 use rules::limits::ACCEPTANCE_DEADLINE;
 use rules::limits::AUTO_ACCEPT;
 use rules::limits::CLAIMED_AT;
 use rules::limits::ESCROW_LEN;
 use rules::limits::FROM;
+use rules::limits::LAPSED;
 use rules::limits::LAST_TIME_MS;
+use rules::limits::PENDING;
 use rules::limits::PROVIDER;
 use rules::limits::RECEIPT_CLOSED_AT;
 use rules::limits::RECEIPT_LEN;
@@ -54,7 +56,7 @@ fn receipt_right(e: &[u64], m: usize, r: &[u64], k: usize) -> bool
         & ((r[at + ACCEPTANCE_DEADLINE] <= LAST_TIME_MS)
             & ((r[at + CLAIMED_AT] <= LAST_TIME_MS)
                 & ((r[at + RECEIPT_CLOSED_AT] <= LAST_TIME_MS)
-                    & ((r[at + AUTO_ACCEPT] <= 1) & ((1 <= state) & (state <= 4))))))
+                    & ((r[at + AUTO_ACCEPT] <= 1) & ((PENDING <= state) & (state <= LAPSED))))))
 }
 
 pub fn receipts_right(e: &[u64], m: usize, r: &[u64], p: usize) -> bool

@@ -6,7 +6,7 @@ use Prim.Native.Nat.{ℕ, _+_, _-_, _<_, _≤_, min}
 use native.Mathlib.Omega.{arith}
 use lib.ListN.{length, getD}
 use lib.Dec.{eqb, ltb, lit≤}
-use Rattle.rules.specs.Limits.{ESCROWS, ESCROW-STATE, ESCROW-DEADLINE, IS-OPEN}
+use Rattle.rules.specs.Limits.{ESCROW-LEN, ESCROWS, ESCROW-STATE, ESCROW-DEADLINE, IS-OPEN}
 use Rattle.rules.specs.Table.{word, loop}
 use Rattle.rules.specs.Ledger.{ledger}
 use Rattle.rules.specs.Settle.{Sweep, sweepEscrow, sweptReceipts, swept, done}
@@ -15,7 +15,7 @@ use Rattle.rules.proofs.Bools.{and-fst}
 use Rattle.rules.proofs.Good.{Good}
 use Rattle.rules.proofs.Stays.{Kept, kept-start, escrow-turn, loop-keeps}
 use Rattle.rules.proofs.SweepPlan.{sweep-counts}
-use Rattle.moves.specs.Needs.{ESCROW-LEN, Ends}
+use Rattle.moves.specs.Needs.{Ends}
 use Rattle.moves.proofs.Bounds.{ends-of}
 use Rattle.sweeping.specs.Needs.{underWay, Expires, Expiring}
 use Rattle.sweeping.proofs.Turns.{loop-none, loop-next, loop-full, escrow-full}

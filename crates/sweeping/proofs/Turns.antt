@@ -9,12 +9,11 @@ use native.Mathlib.Numerals.{add-one}
 use native.Mathlib.Omega.{arith}
 use lib.Dec.{eqb, ltb}
 use borrow.Author.Tests.{eq-eqb, ne-eqb, lt-ltb}
-use Rattle.rules.specs.Limits.{RECEIPT-LEN, AUTO-ACCEPT, LAPSED, RECEIPT-STATE, ACCEPTANCE-DEADLINE, PENDING, ESCROW-STATE, ESCROW-DEADLINE, IS-OPEN, EXPIRED}
+use Rattle.rules.specs.Limits.{ESCROW-LEN, RECEIPT-LEN, AUTO-ACCEPT, LAPSED, RECEIPT-STATE, ACCEPTANCE-DEADLINE, PENDING, ESCROW-STATE, ESCROW-DEADLINE, IS-OPEN, EXPIRED}
 use Rattle.rules.specs.Table.{word, loop}
 use Rattle.rules.specs.Ledger.{Ledger, ledger}
 use Rattle.rules.specs.Settle.{Sweep, done, Done, acceptRow, closeReceipt, endEscrow, closeDueReceipt, closeDueEscrow, sweepReceipt, sweepEscrow}
 use Rattle.rules.proofs.Turns.{turn}
-use Rattle.moves.specs.Needs.{ESCROW-LEN}
 use Rattle.sweeping.specs.Needs.{underWay}
 
 -- a due receipt is accepted, or expires

@@ -4,12 +4,12 @@ use mathlib.Core.List.{List, []}
 use mathlib.Core.Bool.{true}
 use Prim.Native.Nat.{ℕ, _<_, _≤_}
 use lib.Dec.{eqb}
-use Rattle.rules.specs.Limits.{MAX-ESCROWS, LAST-TIME-MS, ESCROW-STATE, IS-OPEN}
+use Rattle.rules.specs.Limits.{ESCROW-LEN, MAX-ESCROWS, LAST-TIME-MS, ESCROW-STATE, IS-OPEN}
 use Rattle.rules.specs.Table.{word}
 use Rattle.rules.specs.Ledger.{Ledger, ledger}
 use Rattle.rules.specs.Settle.{Sweep}
 use Rattle.rules.proofs.Good.{Good}
-use Rattle.moves.specs.Needs.{ESCROW-LEN, Small, Ends}
+use Rattle.moves.specs.Needs.{Small, Ends}
 
 -- it may still close `room` rows, and has closed `closed`
 abbrev pub underWay : ℕ → ℕ → Ledger → Sweep

@@ -4,7 +4,7 @@ use mathlib.Core.Path.{_≡_}
 use mathlib.Core.Bool.{false}
 use native.Mathlib.Omega.{arith}
 use borrow.Author.Needs.{needs}
-use Rattle.envelope.specs.Seen.{seenIn}
+use Rattle.rules.specs.Refusals.{seenIn}
 use Rattle.envelope.proofs.Search.{seen-none, seen-next, seen-here, seen-not}
 use Rattle.envelope.proofs.seen.Statement.{statement}
 use Rattle.envelope.proofs.seen.Tie as tie

@@ -5,9 +5,6 @@ use Rattle.index.specs.Index.{ROOTS, BRANCHES}
 use borrow.Author.Needs.{needs}
 use Rattle.index.proofs.branch.Statement.{statement}
 use Rattle.index.proofs.branch.Tie as tie
-use Rattle.index.proofs.branch.Reads as reads
-use Rattle.index.proofs.branch.Lts as lts
-use Rattle.index.proofs.wide.Reads as wide-reads
 
 mul-wide : tie.Need-mul-wide
 mul-wide c = search needs

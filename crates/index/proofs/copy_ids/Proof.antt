@@ -7,8 +7,6 @@ use Rattle.index.proofs.Laws.{copied-none, copied-more}
 use borrow.Author.Needs.{needs}
 use Rattle.index.proofs.copy_ids.Statement.{statement}
 use Rattle.index.proofs.copy_ids.Tie as tie
-use Rattle.index.proofs.copy_ids.Reads as reads
-use Rattle.index.proofs.copy_ids.Lts as lts
 
 abbrev Inv-loop : tie.InvT-loop
 Inv-loop w n ids₀ i₀ ids i = (i ≤ n) × Copied w i ids

@@ -8,9 +8,6 @@ use Rattle.index.specs.Index.{idAt}
 use borrow.Author.Needs.{needs}
 use Rattle.index.proofs.differ_each.Statement.{statement}
 use Rattle.index.proofs.differ_each.Tie as tie
-use Rattle.index.proofs.differ_each.Reads as reads
-use Rattle.index.proofs.differ_each.Lts as lts
-use Rattle.index.proofs.differs_before.Reads as differs-before-reads
 
 abbrev Inv-loop : tie.InvT-loop
 Inv-loop ids n ok₀ i₀ ok i = (i ≤ n) × (ok ≡ distinct i (idAt ids))

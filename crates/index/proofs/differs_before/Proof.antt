@@ -8,8 +8,6 @@ use Rattle.index.specs.Index.{differs}
 use borrow.Author.Needs.{needs}
 use Rattle.index.proofs.differs_before.Statement.{statement}
 use Rattle.index.proofs.differs_before.Tie as tie
-use Rattle.index.proofs.differs_before.Reads as reads
-use Rattle.index.proofs.differs_before.Lts as lts
 
 abbrev Inv-loop : tie.InvT-loop
 Inv-loop ids i x ok₀ j₀ ok j = (j ≤ i) × (ok ≡ every j (differs ids i))

@@ -1,5 +1,4 @@
 -- `index::far` meets its contract. The loop's invariant: the walk is at a number within n, and what was hit has the id.
-use native.Mathlib.Omega.{arith}
 use Prim.Native.Nat.{_≤_, _-_}
 use mathlib.Core.Logic.{⊎-elim}
 use Rattle.index.specs.Index.{Hit, STEPS}
@@ -7,10 +6,6 @@ use Rattle.index.proofs.Laws.{hit-none, hit-here, hit-still}
 use borrow.Author.Needs.{needs}
 use Rattle.index.proofs.far.Statement.{statement}
 use Rattle.index.proofs.far.Tie as tie
-use Rattle.index.proofs.far.Reads as reads
-use Rattle.index.proofs.far.Lts as lts
-use Rattle.index.proofs.branch.Reads as branch-reads
-use Rattle.index.proofs.root.Reads as root-reads
 
 abbrev Inv-loop : tie.InvT-loop
 Inv-loop ids t n x s₀ y₀ hit₀ counter₀ s y hit counter = (s ≤ n) × Hit ids n x hit × (counter ≤ STEPS)

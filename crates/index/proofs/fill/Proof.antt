@@ -1,17 +1,12 @@
 -- `index::fill` meets its contract. The loop's invariant: the walk of each id passed meets its number.
 use native.Mathlib.Omega.{arith}
-use Prim.Native.Nat.{_+_, _≤_, _<_, _-_}
-use mathlib.Core.Path.{_≡_, sym, _∙_}
-use mathlib.Core.Logic.{⊎-elim}
+use Prim.Native.Nat.{_≤_, _<_, _-_}
+use mathlib.Core.Path.{sym}
 use Rattle.index.specs.Index.{STEPS, Within}
 use Rattle.index.proofs.Walks.{Back, back-none, back-more, within-more, filled-all, filled-compared}
 use borrow.Author.Needs.{needs}
 use Rattle.index.proofs.fill.Statement.{statement}
 use Rattle.index.proofs.fill.Tie as tie
-use Rattle.index.proofs.fill.Reads as reads
-use Rattle.index.proofs.fill.Lts as lts
-use Rattle.index.proofs.differ_each.Reads as differ-each-reads
-use Rattle.index.proofs.seat_for.Reads as seat-for-reads
 
 abbrev Inv-loop : tie.InvT-loop
 Inv-loop ids t₀ n most₀ i₀ t most i = (i ≤ n) × (0 < most) × (most ≤ STEPS) × Within i t × Back ids i t

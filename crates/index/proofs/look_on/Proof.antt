@@ -1,14 +1,8 @@
 -- `index::look_on` meets its contract: ids differ, so a number that has the id is that of the first row that has it.
-use native.Mathlib.Omega.{arith}
-use mathlib.Core.Path.{_≡_, sym, ap, _∙_}
 use Rattle.index.proofs.Laws.{number-row, number-none, number-hit}
 use borrow.Author.Needs.{needs}
 use Rattle.index.proofs.look_on.Statement.{statement}
 use Rattle.index.proofs.look_on.Tie as tie
-use Rattle.index.proofs.look_on.Reads as reads
-use Rattle.index.proofs.look_on.Lts as lts
-use Rattle.index.proofs.far.Reads as far-reads
-use Rattle.rows.proofs.find_row.Reads as find-row-reads
 
 far-requires : tie.Need-far-requires
 far-requires c κs = search needs

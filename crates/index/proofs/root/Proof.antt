@@ -5,9 +5,6 @@ use Rattle.index.specs.Index.{ROOTS}
 use borrow.Author.Needs.{needs}
 use Rattle.index.proofs.root.Statement.{statement}
 use Rattle.index.proofs.root.Tie as tie
-use Rattle.index.proofs.root.Reads as reads
-use Rattle.index.proofs.root.Lts as lts
-use Rattle.index.proofs.wide.Reads as wide-reads
 
 mul-wide : tie.Need-mul-wide
 mul-wide c = search needs

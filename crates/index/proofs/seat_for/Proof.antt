@@ -1,16 +1,13 @@
+-- `index::seat_for` meets its contract. The loop's invariant: the walk has come to p, with `left` steps.
 use mathlib.Core.Path.{_≡_, sym, _∙_}
 use lib.ListN.{getD}
--- `index::seat_for` meets its contract. The loop's invariant: the walk has come to p, with `left` steps.
 use native.Mathlib.Omega.{arith}
-use Prim.Native.Nat.{ℕ, _+_, _*_, _%_, _≤_, _<_, _-_}
+use Prim.Native.Nat.{ℕ, _≤_, _<_}
 use Rattle.index.specs.Index.{PLACES, STEPS}
 use Rattle.index.proofs.Walks.{OnWalk, walk-start, walk-on, walk-end}
 use borrow.Author.Needs.{needs}
 use Rattle.index.proofs.seat_for.Statement.{statement}
 use Rattle.index.proofs.seat_for.Tie as tie
-use Rattle.index.proofs.seat_for.Reads as reads
-use Rattle.index.proofs.seat_for.Lts as lts
-use Rattle.index.proofs.wide.Reads as wide-reads
 
 abbrev Inv-loop : tie.InvT-loop
 Inv-loop ids t n x p₀ y₀ left₀ p y left = (p < PLACES) × (left ≤ STEPS) × OnWalk ids t x left p y

@@ -6,10 +6,6 @@ use Rattle.index.proofs.Laws.{number-hit, no-recipient, a-recipient}
 use borrow.Author.Needs.{needs}
 use Rattle.index.proofs.sender.Statement.{statement}
 use Rattle.index.proofs.sender.Tie as tie
-use Rattle.index.proofs.sender.Reads as reads
-use Rattle.index.proofs.sender.Lts as lts
-use Rattle.index.proofs.look_on.Reads as look-on-reads
-use Rattle.index.proofs.proposed.Reads as proposed-reads
 
 proposed-requires : tie.Need-proposed-requires
 proposed-requires c κs = search needs

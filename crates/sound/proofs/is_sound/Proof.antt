@@ -1,27 +1,16 @@
 -- `sound::is_sound` meets its contract: where the header is right, each pass has its rows within the table, and answers for its own tests.
 use native.Mathlib.Omega.{arith}
-use Prim.Native.Nat.{_<_}
 use mathlib.Core.Path.{_≡_, sym, _∙_}
 use mathlib.Core.Bool.{true}
-use lib.ListN.{length}
 use borrow.Author.Tests.{not-false}
 use Rattle.rules.specs.Ledger.{ledger, walletCount, escrowCount}
 use Rattle.rules.specs.Sound.{headerTests}
 use Rattle.rules.specs.Table.{all}
 use Rattle.sound.specs.Parts.{Tables}
 use Rattle.sound.proofs.Counted.{header-length, escrow-row, tables, receipt-rows, entry-rows}
-use Rattle.sound.proofs.Whole.{no-header, together}
-use borrow.Author.Needs.{needs}
+use Rattle.sound.proofs.Whole.{no-header, no-wallets, no-total, no-parties, no-receipts, the-entries}
 use Rattle.sound.proofs.is_sound.Statement.{statement}
 use Rattle.sound.proofs.is_sound.Tie as tie
-use Rattle.sound.proofs.is_sound.Reads as reads
-use Rattle.sound.proofs.is_sound.Lts as lts
-use Rattle.sound.proofs.escrows.parties_right.Reads as parties-right-reads
-use Rattle.sound.proofs.header_right.Reads as header-right-reads
-use Rattle.sound.proofs.journal.entries_right.Reads as entries-right-reads
-use Rattle.sound.proofs.receipts.receipts_right.Reads as receipts-right-reads
-use Rattle.sound.proofs.wallets.total_right.Reads as total-right-reads
-use Rattle.sound.proofs.wallets.wallets_right.Reads as wallets-right-reads
 
 -- where the header is right
 right : (c : tie.Else1) → all (headerTests (ledger (c .before .before .before .before .before .before .before .args .header .now) (c .before .before .before .before .before .before .before .args .wallets .now) (c .before .before .before .before .before .before .before .args .escrows .now) (c .before .before .before .before .before .before .before .args .receipts .now) (c .before .before .before .before .before .before .before .args .journal .now))) ≡ true
@@ -46,32 +35,44 @@ shared-slice-read-m c = omega (arith, header-length _ _ _ _ _ (c .before .before
 wallets-right-requires : tie.Need-wallets-right-requires
 wallets-right-requires c κs = within (c .before .before) .wallets
 
+returns-2 : tie.Need-returns-2
+returns-2 c = no-wallets _ _ _ _ _ (right (c .before .before .before .before)) _ (c .before .wallets-right .ensures) (c .if2 .taken)
+
+shared-slice-read-total-right : tie.Need-shared-slice-read-total-right
+shared-slice-read-total-right c = omega (arith, header-length _ _ _ _ _ (c .before .before .before .before .before .before .before .before .before .before .before .before .pre))
+
+total-right-requires : tie.Need-total-right-requires
+total-right-requires c κs = within (c .before .before .before .before .before) .wallets
+
+returns-3 : tie.Need-returns-3
+returns-3 c = no-total _ _ _ _ _ (right (c .before .before .before .before .before .before .before)) _ (c .before .total-right .ensures) (c .if3 .taken)
+
 parties-right-requires : tie.Need-parties-right-requires
-parties-right-requires c κs = within (c .before .before .before)
+parties-right-requires c κs = within (c .before .before .before .before .before .before .before)
+
+returns-4 : tie.Need-returns-4
+returns-4 c = no-parties _ _ _ _ _ (right (c .before .before .before .before .before .before .before .before .before)) _ (c .before .parties-right .ensures) (c .if4 .taken)
 
 shared-slice-read-receipts-right : tie.Need-shared-slice-read-receipts-right
-shared-slice-read-receipts-right c = omega (arith, header-length _ _ _ _ _ (c .before .before .before .before .before .before .before .before .before .before .before .before .pre))
+shared-slice-read-receipts-right c = omega (arith, header-length _ _ _ _ _ (c .before .before .before .before .before .before .before .before .before .before .before .before .before .before .before .before .before .pre))
 
 receipts-right-requires : tie.Need-receipts-right-requires
 receipts-right-requires c κs =
-    (within (c .before .before .before .before .before) .escrows, escrow-row _ _ _ _ _ (c .before .before .before .before .before .before .before .before .before .before .before .before .pre), receipt-rows _ _ _ _ _ (c .before .before .before .before .before .before .before .before .before .before .before .before .pre) (right (c .before .before .before .before .before)))
+    (within (c .before .before .before .before .before .before .before .before .before .before) .escrows, escrow-row _ _ _ _ _ (c .before .before .before .before .before .before .before .before .before .before .before .before .before .before .before .before .before .pre), receipt-rows _ _ _ _ _ (c .before .before .before .before .before .before .before .before .before .before .before .before .before .before .before .before .before .pre) (right (c .before .before .before .before .before .before .before .before .before .before)))
+
+returns-5 : tie.Need-returns-5
+returns-5 c = no-receipts _ _ _ _ _ (right (c .before .before .before .before .before .before .before .before .before .before .before .before)) _ (c .before .receipts-right .ensures) (c .if5 .taken)
 
 shared-slice-read-entries-right : tie.Need-shared-slice-read-entries-right
-shared-slice-read-entries-right c = omega (arith, header-length _ _ _ _ _ (c .before .before .before .before .before .before .before .before .before .before .before .before .before .before .pre))
+shared-slice-read-entries-right c = omega (arith, header-length _ _ _ _ _ (c .before .before .before .before .before .before .before .before .before .before .before .before .before .before .before .before .before .before .before .before .pre))
 
 entries-right-requires : tie.Need-entries-right-requires
-entries-right-requires c κs = entry-rows _ _ _ _ _ (c .before .before .before .before .before .before .before .before .before .before .before .before .before .before .pre) (right (c .before .before .before .before .before .before .before))
+entries-right-requires c κs = entry-rows _ _ _ _ _ (c .before .before .before .before .before .before .before .before .before .before .before .before .before .before .before .before .before .before .before .before .pre) (right (c .before .before .before .before .before .before .before .before .before .before .before .before .before))
 
-shared-slice-read-total-right : tie.Need-shared-slice-read-total-right
-shared-slice-read-total-right c = omega (arith, header-length _ _ _ _ _ (c .before .before .before .before .before .before .before .before .before .before .before .before .before .before .before .before .pre))
-
-total-right-requires : tie.Need-total-right-requires
-total-right-requires c κs = within (c .before .before .before .before .before .before .before .before .before) .wallets
-
-returns-2 : tie.Need-returns-2
-returns-2 c =
-    together _ _ _ _ _ _ _ _ _ _ _ (c .before .before .before .before .before .before .before .before .before .before .before .header-right .ensures) (c .before .before .before .before .before .before .before .before .before .before .if1 .left) (c .before .before .before .before .before .before .before .wallets-right .ensures) (c .before .before .before .before .before .before .parties-right .ensures)
-    (c .before .before .before .before .receipts-right .ensures) (c .before .before .entries-right .ensures) (c .total-right .ensures)
+returns-6 : tie.Need-returns-6
+returns-6 c =
+    the-entries _ _ _ _ _ (right (c .before .before .before .before .before .before .before .before .before .before .before .before .before .before)) _ _ _ _ _ (c .before .before .before .before .before .before .before .before .before .before .before .wallets-right .ensures) (c .before .before .before .before .before .before .before .before .before .before .if2 .left) (c .before .before .before .before .before .before .before .before .total-right .ensures) (c .before .before .before .before .before .before .before .if3 .left)
+    (c .before .before .before .before .before .before .parties-right .ensures) (c .before .before .before .before .before .if4 .left) (c .before .before .before .receipts-right .ensures) (c .before .before .if5 .left) (c .entries-right .ensures)
 
 pub is-sound-spec : {M : Type 1} → statement M
 is-sound-spec =
@@ -82,11 +83,15 @@ is-sound-spec =
     shared-slice-read-n
     shared-slice-read-m
     wallets-right-requires
-    parties-right-requires
-    shared-slice-read-receipts-right
-    receipts-right-requires
-    shared-slice-read-entries-right
-    entries-right-requires
+    returns-2
     shared-slice-read-total-right
     total-right-requires
-    returns-2)
+    returns-3
+    parties-right-requires
+    returns-4
+    shared-slice-read-receipts-right
+    receipts-right-requires
+    returns-5
+    shared-slice-read-entries-right
+    entries-right-requires
+    returns-6)

@@ -2,7 +2,7 @@
 use Prim.Native.Nat.{_-_, _≤_}
 use mathlib.Core.Path.{_≡_, sym}
 use native.Mathlib.Omega.{arith}
-use Rattle.payments.specs.Counted.{countedOf}
+use Rattle.rules.specs.Refusals.{countedOf}
 use Rattle.payments.proofs.Whole.{counted-none, counted-next, counted-fits, counted-all}
 use borrow.Author.Needs.{needs}
 use Rattle.payments.proofs.sums.counted.Statement.{statement}

@@ -1,11 +1,8 @@
 -- `escrows::held_in` meets its contract, by the test of the state.
-use mathlib.Core.Path.{_≡_, refl}
 use borrow.Author.Tests.{eq-eqb, ne-eqb}
 use borrow.Author.Needs.{needs}
 use Rattle.sound.proofs.escrows.held_in.Statement.{statement}
 use Rattle.sound.proofs.escrows.held_in.Tie as tie
-use Rattle.sound.proofs.escrows.held_in.Reads as reads
-use Rattle.sound.proofs.escrows.held_in.Lts as lts
 
 mul-if1 : tie.Need-mul-if1
 mul-if1 c = search needs

@@ -1,26 +1,21 @@
-use Rattle.sound.proofs.Holds.{held-end}
 -- `escrows::hold_all` meets its contract. The loop's invariant: the escrows passed are right, and the sums are those over them.
+use Rattle.sound.proofs.Holds.{held-end}
 use native.Mathlib.Omega.{arith}
-use Prim.Native.Nat.{_+_, _*_, _≤_, _-_}
-use mathlib.Core.Path.{_≡_, sym, _∙_}
+use Prim.Native.Nat.{_≤_, _-_}
+use mathlib.Core.Path.{_≡_}
 use mathlib.Core.Bool.{true, false, false≢true}
 use borrow.Author.Tests.{not-true, not-false}
-use Rattle.rules.specs.Limits.{MAX-WALLETS, MAX-ESCROWS, MAX-AMOUNT-MICRO, FROM, TO}
+use Rattle.rules.specs.Limits.{ESCROW-LEN, MAX-WALLETS, FROM, TO}
 use Rattle.rules.specs.Table.{word, all, every}
 use Rattle.rules.specs.Sound.{escrowTests}
 use Rattle.rules.proofs.Counts.{every-none}
 use Rattle.index.proofs.Laws.{indexed-apart}
-use Rattle.sound.specs.Parts.{ESCROW-LEN, parties, Held, HeldAll}
+use Rattle.sound.specs.Parts.{parties, Held}
 use Rattle.sound.proofs.Loops.{pass-on, fails, passes}
-use Rattle.sound.proofs.Holds.{Sent, sent, not-sent, sent-row, row-wrong, row-right, amount-most, sums-fit, held-more}
+use Rattle.sound.proofs.Holds.{Sent, sent, not-sent, sent-row, row-wrong, row-right, sums-fit, held-more}
 use borrow.Author.Needs.{needs}
 use Rattle.sound.proofs.escrows.hold_all.Statement.{statement}
 use Rattle.sound.proofs.escrows.hold_all.Tie as tie
-use Rattle.sound.proofs.escrows.hold_all.Reads as reads
-use Rattle.sound.proofs.escrows.hold_all.Lts as lts
-use Rattle.index.proofs.sender.Reads as sender-reads
-use Rattle.sound.proofs.escrows.escrow_right.Reads as escrow-right-reads
-use Rattle.sound.proofs.escrows.held_in.Reads as held-in-reads
 
 abbrev Inv-loop : tie.InvT-loop
 Inv-loop w ids t n most e m sums₀ k₀ sums k =

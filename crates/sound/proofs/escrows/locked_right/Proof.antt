@@ -1,7 +1,6 @@
 -- `escrows::locked_right` meets its contract. The loop's invariant: the wallets passed have their sums locked.
-use native.Mathlib.Omega.{arith}
 use Prim.Native.Nat.{_≤_, _-_}
-use mathlib.Core.Path.{_≡_, sym, _∙_}
+use mathlib.Core.Path.{_≡_}
 use mathlib.Core.Bool.{true}
 use borrow.Author.Tests.{eq-eqb, ne-eqb}
 use Rattle.rules.specs.Table.{every}
@@ -11,8 +10,6 @@ use Rattle.sound.proofs.Loops.{pass-on, fails, passes}
 use borrow.Author.Needs.{needs}
 use Rattle.sound.proofs.escrows.locked_right.Statement.{statement}
 use Rattle.sound.proofs.escrows.locked_right.Tie as tie
-use Rattle.sound.proofs.escrows.locked_right.Reads as reads
-use Rattle.sound.proofs.escrows.locked_right.Lts as lts
 
 abbrev Inv-loop : tie.InvT-loop
 Inv-loop w n sums i₀ i = (i ≤ n) × (every i (lockedIs w sums) ≡ true)

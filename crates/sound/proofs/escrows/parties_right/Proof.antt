@@ -1,17 +1,9 @@
 -- `escrows::parties_right` meets its contract: the index is filled from nothing, the sums from zeros, and each part answers for its own tests.
-use native.Mathlib.Omega.{arith}
-use mathlib.Core.Path.{_≡_, sym, _∙_}
 use Rattle.index.proofs.Walks.{within-empty}
 use Rattle.sound.proofs.Parties.{held-none, same-ids, indexed, wrong-escrow, locked-all}
 use borrow.Author.Needs.{needs}
 use Rattle.sound.proofs.escrows.parties_right.Statement.{statement}
 use Rattle.sound.proofs.escrows.parties_right.Tie as tie
-use Rattle.sound.proofs.escrows.parties_right.Reads as reads
-use Rattle.sound.proofs.escrows.parties_right.Lts as lts
-use Rattle.index.proofs.copy_ids.Reads as copy-ids-reads
-use Rattle.index.proofs.fill.Reads as fill-reads
-use Rattle.sound.proofs.escrows.hold_all.Reads as hold-all-reads
-use Rattle.sound.proofs.escrows.locked_right.Reads as locked-right-reads
 
 copy-ids-requires : tie.Need-copy-ids-requires
 copy-ids-requires c κs = search needs

@@ -1,5 +1,4 @@
 -- `journal::entries_right` meets its contract. The loop's invariant: the rows passed are right.
-use native.Mathlib.Omega.{arith}
 use Prim.Native.Nat.{_≤_, _-_}
 use mathlib.Core.Path.{_≡_, sym, _∙_}
 use mathlib.Core.Bool.{true}
@@ -12,9 +11,6 @@ use Rattle.sound.proofs.Loops.{pass-on, fails, passes}
 use borrow.Author.Needs.{needs}
 use Rattle.sound.proofs.journal.entries_right.Statement.{statement}
 use Rattle.sound.proofs.journal.entries_right.Tie as tie
-use Rattle.sound.proofs.journal.entries_right.Reads as reads
-use Rattle.sound.proofs.journal.entries_right.Lts as lts
-use Rattle.sound.proofs.journal.entry_right.Reads as entry-right-reads
 
 abbrev Inv-loop : tie.InvT-loop
 Inv-loop j q k₀ k = (k ≤ q) × (every k (λ i. all (entryTests (entriesIn j) i)) ≡ true)

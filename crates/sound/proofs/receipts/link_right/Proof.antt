@@ -1,14 +1,10 @@
+-- `receipts::link_right` meets its contract: a link that is 0 or within the written escrows has its row one before it.
 use Rattle.rules.specs.Limits.{RECEIPT-LEN, REQUESTER, PROVIDER}
 use Rattle.rules.specs.Table.{word}
--- `receipts::link_right` meets its contract: a link that is 0 or within the written escrows has its row one before it.
-use mathlib.Core.Path.{_≡_, refl}
 use Rattle.sound.proofs.Links.{link-past, link-within}
 use borrow.Author.Needs.{needs}
 use Rattle.sound.proofs.receipts.link_right.Statement.{statement}
 use Rattle.sound.proofs.receipts.link_right.Tie as tie
-use Rattle.sound.proofs.receipts.link_right.Reads as reads
-use Rattle.sound.proofs.receipts.link_right.Lts as lts
-use Rattle.sound.proofs.receipts.row_at.Reads as row-at-reads
 
 mul-at : tie.Need-mul-at
 mul-at c = search needs

@@ -1,11 +1,7 @@
 -- `receipts::receipt_right` meets its contract: the tests are the definition's, but for the link, which has a function of its own.
-use mathlib.Core.Path.{_≡_, refl}
 use borrow.Author.Needs.{needs}
 use Rattle.sound.proofs.receipts.receipt_right.Statement.{statement}
 use Rattle.sound.proofs.receipts.receipt_right.Tie as tie
-use Rattle.sound.proofs.receipts.receipt_right.Reads as reads
-use Rattle.sound.proofs.receipts.receipt_right.Lts as lts
-use Rattle.sound.proofs.receipts.link_right.Reads as link-right-reads
 
 link-right-requires : tie.Need-link-right-requires
 link-right-requires c κs = search needs

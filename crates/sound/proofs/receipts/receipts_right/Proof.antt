@@ -1,5 +1,4 @@
 -- `receipts::receipts_right` meets its contract. The loop's invariant: the rows passed are right.
-use native.Mathlib.Omega.{arith}
 use Prim.Native.Nat.{_≤_, _-_}
 use mathlib.Core.Path.{_≡_, sym, _∙_}
 use mathlib.Core.Bool.{true}
@@ -12,9 +11,6 @@ use Rattle.sound.proofs.Loops.{pass-on, fails, passes}
 use borrow.Author.Needs.{needs}
 use Rattle.sound.proofs.receipts.receipts_right.Statement.{statement}
 use Rattle.sound.proofs.receipts.receipts_right.Tie as tie
-use Rattle.sound.proofs.receipts.receipts_right.Reads as reads
-use Rattle.sound.proofs.receipts.receipts_right.Lts as lts
-use Rattle.sound.proofs.receipts.receipt_right.Reads as receipt-right-reads
 
 abbrev Inv-loop : tie.InvT-loop
 Inv-loop e m r p k₀ k = (k ≤ p) × (every k (λ i. all (receiptTests (receiptsIn e m r) i)) ≡ true)

@@ -8,8 +8,6 @@ use Rattle.sound.proofs.Totals.{both, granted-more, credits-more, credi
 use borrow.Author.Needs.{needs}
 use Rattle.sound.proofs.wallets.total_right.Statement.{statement}
 use Rattle.sound.proofs.wallets.total_right.Tie as tie
-use Rattle.sound.proofs.wallets.total_right.Reads as reads
-use Rattle.sound.proofs.wallets.total_right.Lts as lts
 
 abbrev Inv-loop : tie.InvT-loop
 Inv-loop w n granted left₀ i₀ left i = (i ≤ n) × (left + sum i (both w) ≡ granted)

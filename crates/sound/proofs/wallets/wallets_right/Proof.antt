@@ -1,5 +1,4 @@
 -- `wallets::wallets_right` meets its contract. The loop's invariant: the rows passed are right.
-use native.Mathlib.Omega.{arith}
 use Prim.Native.Nat.{_≤_, _-_}
 use mathlib.Core.Path.{_≡_, sym, _∙_}
 use mathlib.Core.Bool.{true}
@@ -12,9 +11,6 @@ use Rattle.sound.proofs.Loops.{pass-on, fails, passes}
 use borrow.Author.Needs.{needs}
 use Rattle.sound.proofs.wallets.wallets_right.Statement.{statement}
 use Rattle.sound.proofs.wallets.wallets_right.Tie as tie
-use Rattle.sound.proofs.wallets.wallets_right.Reads as reads
-use Rattle.sound.proofs.wallets.wallets_right.Lts as lts
-use Rattle.sound.proofs.wallets.wallet_right.Reads as wallet-right-reads
 
 abbrev Inv-loop : tie.InvT-loop
 Inv-loop w n i₀ i = (i ≤ n) × (every i (λ i. all (walletTests (walletsIn w n) i)) ≡ true)

@@ -1,2 +1,0 @@
--- The envelope: what the search of the journal finds.
-pub mod Seen
