@@ -28,7 +28,13 @@ fn main() -> ExitCode {
     match run(seed, submissions, &mut report) {
         Ok(tally) => {
             println!("seed {seed}\n{tally}");
-            ExitCode::from(u8::from(!tally.missing().is_empty()))
+            let forbidden = tally.forbidden();
+            if !forbidden.is_empty() {
+                println!("reached, but not listed (operation, answer): {forbidden:?}");
+            }
+            ExitCode::from(u8::from(
+                !tally.missing().is_empty() || !forbidden.is_empty(),
+            ))
         }
         Err(failure) => {
             println!("difference: {failure}");
