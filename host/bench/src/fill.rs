@@ -9,21 +9,63 @@ const BALANCE: u64 = 1_000_000_000;
 /// Free rows for escrows and journal rows.
 pub const ROOM: usize = 16;
 
-/// How the parties' ids look.
+/// How the parties' ids look. The last three are ids that parties might choose to make a search
+/// slow; `docs/PERFORMANCE-sound.md` says how the worst were looked for.
 #[derive(Clone, Copy, PartialEq, Eq)]
 pub enum Ids {
     /// 1001, 1002, ..
     InARow,
-    /// Equal in their low 54 bits, as parties might choose them to make a search slow.
+    /// Any 64 bits.
+    Random,
+    /// Equal in their low 13 bits: every walk through the core's index starts at one root.
+    OneRoot,
+    /// Equal in their low 54 bits.
     Alike,
+    /// Chains of twelve, each wallet met on the way to the next, and every escrow between the ends
+    /// of two of them.
+    Chains,
 }
+
+/// How many chains there are, and how long each is.
+const CHAINS: usize = 85;
+const LENGTH: usize = 12;
 
 /// The id of the wallet in this place.
 pub fn id(ids: Ids, place: usize) -> u64 {
+    let number = place as u64;
     match ids {
-        Ids::InARow => 1_001 + place as u64,
-        Ids::Alike => 7 + ((place as u64) << 54),
+        Ids::InARow => 1_001 + number,
+        Ids::Random => mixed(number + 1),
+        Ids::OneRoot => (number + 1) << 13,
+        Ids::Alike => 7 + (number << 54),
+        Ids::Chains => {
+            let (link, chain) = (number / CHAINS as u64, number % CHAINS as u64);
+            match link {
+                0 => chain + 1,
+                _ if place < CHAINS * LENGTH => chain + 1 + (1 << (13 + 5 * (link - 1))),
+                _ => 4_000 + number,
+            }
+        }
     }
+}
+
+/// Bits that look like chance (the last steps of splitmix64; no two numbers give the same).
+fn mixed(number: u64) -> u64 {
+    let mut bits = number.wrapping_mul(0x9E37_79B9_7F4A_7C15);
+    bits = (bits ^ (bits >> 30)).wrapping_mul(0xBF58_476D_1CE4_E5B9);
+    bits = (bits ^ (bits >> 27)).wrapping_mul(0x94D0_49BB_1331_11EB);
+    bits ^ (bits >> 31)
+}
+
+/// The places of an escrow's two parties.
+fn parties(ids: Ids, place: usize, wallets: usize) -> (usize, usize) {
+    let (first, count) = match ids {
+        Ids::Chains if CHAINS * LENGTH <= wallets => (CHAINS * (LENGTH - 1), CHAINS),
+        _ => (0, wallets),
+    };
+    let (from, to) = (place % count, (place * 7 + 1) % count);
+    let to = if to == from { (to + 1) % count } else { to };
+    (first + from, first + to)
 }
 
 /// A sound ledger with all rows written but [`ROOM`] escrows and journal rows. A quarter of the
@@ -35,8 +77,7 @@ pub fn filled(sizes: Sizes, ids: Ids) -> Ledger {
     let (escrows, journal) = (sizes.escrows - ROOM, sizes.journal - ROOM);
     let mut locked = vec![0; wallets];
     for (place, row) in tables.escrows.chunks_exact_mut(8).take(escrows).enumerate() {
-        let (from, to) = (place % wallets, (place * 7 + 1) % wallets);
-        let to = if to == from { (to + 1) % wallets } else { to };
+        let (from, to) = parties(ids, place, wallets);
         let amount = 1 + place as u64 % 1_000;
         let open = place % 4 == 0;
         if open {

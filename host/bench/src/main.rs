@@ -55,8 +55,15 @@ fn work() -> Result<(), String> {
     }
     print!("{}", report::sizes(&rows));
 
-    let colliding = at_size(Sizes::LARGEST, Ids::Alike, effort);
-    print!("{}", report::alike(&rows[2].2, &colliding));
+    let kinds = [
+        ("in a row", Ids::InARow),
+        ("random", Ids::Random),
+        ("all at one root of the index", Ids::OneRoot),
+        ("alike in 54 bits", Ids::Alike),
+        ("chains of 12: the worst found", Ids::Chains),
+    ];
+    let by_ids = kinds.map(|(name, ids)| (name, at_size(Sizes::LARGEST, ids, effort)));
+    print!("{}", report::ids(&by_ids));
 
     let growth: Vec<(Sizes, Costs)> = [64, 32, 16, 8, 4, 2, 1]
         .into_iter()

@@ -70,15 +70,23 @@ pub fn sizes(rows: &[(&str, Sizes, Costs, Stores)]) -> String {
     text + "\n"
 }
 
-/// Whether ids that look alike make the core slower.
-pub fn alike(usual: &Costs, alike: &Costs) -> String {
-    format!(
-        "\n| full tables, one submit in µs | ids in a row | ids alike in 54 bits | ratio |\n\
-         |---|---:|---:|---:|\n| core | {:.1} | {:.1} | {:.2} |\n",
-        usual.core_submit,
-        alike.core_submit,
-        alike.core_submit / usual.core_submit
-    )
+/// How much the core's time depends on the ids that parties choose.
+pub fn ids(rows: &[(&str, Costs)]) -> String {
+    let mut text = String::from(
+        "\n| full tables; the wallets' ids | is it sound, µs | plain reads | submit, µs | \
+         plain reads |\n|---|---:|---:|---:|---:|",
+    );
+    for (name, costs) in rows {
+        let _ = write!(
+            text,
+            "\n| {name} | {:.1} | {:.2} | {:.1} | {:.2} |",
+            costs.core_sound,
+            costs.core_sound / costs.read,
+            costs.core_submit,
+            costs.core_submit / costs.read,
+        );
+    }
+    text + "\n"
 }
 
 /// How the cost grows as tables double.
