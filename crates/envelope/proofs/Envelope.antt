@@ -8,9 +8,10 @@ use lib.ListN.{getD}
 use lib.Dec.{T, eqb, ltb}
 use Rattle.rules.specs.Limits.{GRANT, SWEEP, FREEZE, CAPS, SIGNATURE-HELD, ADMIN, SYSTEM-FROZEN, CLOCK, ENTRIES, MAX-SKEW-MS, MAX-ENVELOPE-MS}
 use Rattle.rules.specs.Table.{every}
-use Rattle.rules.specs.Ledger.{ledger}
+use Rattle.rules.specs.Ledger.{ledgerOf}
 use Rattle.rules.specs.Sound.{between}
 use Rattle.rules.specs.Refusals.{first, oneOf, signed, clear, seenIn, seen, envelopeRefusals}
+use Rattle.rules.specs.declared.Edition.{Edition}
 use Rattle.rules.specs.declared.Submission.{Submission}
 use Rattle.rules.proofs.Below.{below}
 
@@ -32,7 +33,7 @@ signed-is op lo hi =
     subst (λ (n : ℕ). oneOf signed n ≡ not (eqb n SWEEP)) e (same _ _ (below agree CAPS tt (op - 1) (omega arith)))
 
 pub refusal-by :
-    (h w e r j : List ℕ) (s : Submission) (r4 r5 r6 r7 r8 r9 r10 r11 : ℕ) (used : Bool)
+    (ed : Edition) (h w e r j : List ℕ) (s : Submission) (r4 r5 r6 r7 r8 r9 r10 r11 : ℕ) (used : Bool)
     → 1 ≤ s .op
     → s .op ≤ CAPS
     → used ≡ seenIn j (getD h ENTRIES 0) (s .signer) (s .nonce)
@@ -44,6 +45,6 @@ pub refusal-by :
     → r6 ≡ cond (not (eqb (s .op) SWEEP) && clear s SIGNATURE-HELD) 6 r7
     → r5 ≡ cond (between GRANT SWEEP (s .op) && eqb (getD h SYSTEM-FROZEN 0) 1) 5 r6
     → r4 ≡ cond (ltb (s .now) (getD h CLOCK 0)) 4 r5
-    → r4 ≡ first (envelopeRefusals (ledger h w e r j) s)
+    → r4 ≡ first (envelopeRefusals (ledgerOf ed h w e r j) s)
 unfolding envelopeRefusals seen seenIn
-refusal-by h w e r j s r4 r5 r6 r7 r8 r9 r10 r11 used lo hi u c11 c10 c9 c8 c7 c6 c5 c4 = cc (signed-is (s .op) lo hi, or-false (eqb (s .op) CAPS))
+refusal-by ed h w e r j s r4 r5 r6 r7 r8 r9 r10 r11 used lo hi u c11 c10 c9 c8 c7 c6 c5 c4 = cc (signed-is (s .op) lo hi, or-false (eqb (s .op) CAPS))

@@ -1,10 +1,10 @@
 // Checks 4 to 11: the clock, the system, the envelope and its nonce.
 ghost use mathlib.Core.Path.{_≡_};
-ghost use mathlib.Core.List.{List};
-ghost use Prim.Native.Nat.{ℕ, _*_, _≤_, _<_};
+ghost use Prim.Native.Nat.{_*_, _≤_, _<_};
 ghost use lib.ListN.{getD, length};
 ghost use Rattle.rules.specs.Limits.{JOURNAL-LEN, ENTRIES, LAST-TIME-MS, CAPS};
-ghost use Rattle.rules.specs.Ledger.{ledger};
+ghost use Rattle.rules.specs.Ledger.{Ledger};
+ghost use Rattle.rules.specs.Moments.{any, _with-header_, _with-journal_};
 ghost use Rattle.rules.specs.Refusals.{first, seenIn, envelopeRefusals};
 use rules::Submission;
 use rules::limits::ADMIN;
@@ -42,7 +42,7 @@ pub fn seen(journal: &[u64], n: usize, signer: u64, nonce: u64) -> bool
 // The first of checks 4 to 11 that holds, or 0. Each condition is worked out, whether or not an earlier one holds.
 pub fn envelope_refusal(header: &[u64], journal: &[u64], s: Submission) -> u64
     requires { ⌜ (ENTRIES < length (now header)) × (getD (now header) ENTRIES 0 * JOURNAL-LEN ≤ length (now journal)) × (1 ≤ s .op) × (s .op ≤ CAPS) × (s .now ≤ LAST-TIME-MS) × (s .issued ≤ LAST-TIME-MS) ⌝ }
-    ensures { λ x. ⌜ ((w e r : List ℕ) → x ≡ first (envelopeRefusals (ledger (now (header .entry)) w e r (now (journal .entry))) s)) ⌝ }
+    ensures { λ x. ⌜ ((K : Ledger) → let L = any K with-header header with-journal journal in x ≡ first (envelopeRefusals (L .entry) s)) ⌝ }
 {
     let clock = header[CLOCK];
     let frozen = header[SYSTEM_FROZEN];

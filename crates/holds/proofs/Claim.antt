@@ -6,11 +6,12 @@ use mathlib.Core.Bool.{Bool, not, cond, _&&_, _||_}
 use Prim.Native.Nat.{ℕ, _+_, _-_}
 use lib.ListN.{getD}
 use lib.Dec.{eqb, ltb, leb}
-use Rattle.rules.specs.Limits.{ESCROW-LEN, RECEIPT-LEN, JOURNAL-LEN, MIN-ACCEPTANCE-MS, MAX-ACCEPTANCE-MS, CLAIM, WALLETS, ESCROWS, RECEIPTS, ENTRIES}
+use Rattle.rules.specs.Limits.{RECEIPT-LEN, JOURNAL-LEN, MIN-ACCEPTANCE-MS, MAX-ACCEPTANCE-MS, CLAIM, WALLETS, ESCROWS, RECEIPTS, ENTRIES}
 use Rattle.rules.specs.Limits.{FROM, TO, ESCROW-DEADLINE, ESCROW-STATE, IS-OPEN}
 use Rattle.rules.specs.Table.{word}
-use Rattle.rules.specs.Ledger.{Ledger, ledger, rowOf, escrow, escrowCount, receiptCount, entryCount, hasWallet, written, full}
+use Rattle.rules.specs.Ledger.{Ledger, ledgerOf, rowOf, escrow, escrowCount, receiptCount, entryCount, hasWallet, written, full}
 use Rattle.rules.specs.Refusals.{Refusal, row, first, ofEscrow, releasable, operationRefusals}
+use Rattle.rules.specs.declared.Edition.{Edition}
 use Rattle.rules.specs.declared.Submission.{Submission}
 use Rattle.holds.specs.Named.{rowNamed}
 use Rattle.holds.proofs.Numbers.{named}
@@ -41,16 +42,16 @@ unfolding operationRefusals ofClaim
 claim-rows L s o = simp o
 
 pub claim-by :
-    (h w e r j : List ℕ) (s : Submission)
+    (ed : Edition) (h w e r j : List ℕ) (s : Submission)
     (provider requester i from to deadline state r15 r22 r23 r24 r25 r26 r27 r29 r30 r31 r39 r40 : ℕ)
     → s .op ≡ CLAIM
     → provider ≡ rowOf w (getD h WALLETS 0) (s .signer)
     → requester ≡ rowOf w (getD h WALLETS 0) (s .target)
     → i ≡ rowNamed (getD h ESCROWS 0) (s .link)
-    → from ≡ word e ESCROW-LEN i FROM
-    → to ≡ word e ESCROW-LEN i TO
-    → deadline ≡ word e ESCROW-LEN i ESCROW-DEADLINE
-    → state ≡ word e ESCROW-LEN i ESCROW-STATE
+    → from ≡ word e (ed .escrow) i FROM
+    → to ≡ word e (ed .escrow) i TO
+    → deadline ≡ word e (ed .escrow) i ESCROW-DEADLINE
+    → state ≡ word e (ed .escrow) i ESCROW-STATE
     → r40 ≡ cond (full JOURNAL-LEN j (getD h ENTRIES 0)) 40 0
     → r39 ≡ cond (full RECEIPT-LEN r (getD h RECEIPTS 0)) 39 r40
     → r31 ≡ cond (link s (written (getD h ESCROWS 0) (s .link) && ltb deadline (s .until))) 31 r39
@@ -63,12 +64,12 @@ pub claim-by :
     → r23 ≡ cond (not (ltb requester (getD h WALLETS 0))) 23 r24
     → r22 ≡ cond (not (ltb provider (getD h WALLETS 0))) 22 r23
     → r15 ≡ cond (eqb (s .target) 0 || eqb (s .target) (s .signer)) 15 r22
-    → r15 ≡ first (operationRefusals (ledger h w e r j) s)
+    → r15 ≡ first (operationRefusals (ledgerOf ed h w e r j) s)
 unfolding ofClaim
-claim-by h w e r j s provider requester i from to deadline state r15 r22 r23 r24 r25 r26 r27 r29 r30 r31 r39 r40 o p q a b d f g
+claim-by ed h w e r j s provider requester i from to deadline state r15 r22 r23 r24 r25 r26 r27 r29 r30 r31 r39 r40 o p q a b d f g
     c40 c39 c31 c30 c29 c27 c26 c25 c24 c23 c22 c15 =
-    let x = named (getD h ESCROWS 0) (s .link) i (λ i. not (eqb (word e ESCROW-LEN i ESCROW-STATE) IS-OPEN && leb (s .now) (word e ESCROW-LEN i ESCROW-DEADLINE))) a in
-    let y = named (getD h ESCROWS 0) (s .link) i (λ i. not (eqb (word e ESCROW-LEN i FROM) (s .target)) || not (eqb (word e ESCROW-LEN i TO) (s .signer))) a in
-    let z = named (getD h ESCROWS 0) (s .link) i (λ i. ltb (word e ESCROW-LEN i ESCROW-DEADLINE) (s .until)) a in
-    let picks : r15 ≡ first (ofClaim (ledger h w e r j) s) = cc in
+    let x = named (getD h ESCROWS 0) (s .link) i (λ i. not (eqb (word e (ed .escrow) i ESCROW-STATE) IS-OPEN && leb (s .now) (word e (ed .escrow) i ESCROW-DEADLINE))) a in
+    let y = named (getD h ESCROWS 0) (s .link) i (λ i. not (eqb (word e (ed .escrow) i FROM) (s .target)) || not (eqb (word e (ed .escrow) i TO) (s .signer))) a in
+    let z = named (getD h ESCROWS 0) (s .link) i (λ i. ltb (word e (ed .escrow) i ESCROW-DEADLINE) (s .until)) a in
+    let picks : r15 ≡ first (ofClaim (ledgerOf ed h w e r j) s) = cc in
     picks ∙ sym (claim-rows _ s o)

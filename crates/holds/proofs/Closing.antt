@@ -7,10 +7,11 @@ use mathlib.Core.Bool.{not, cond, _&&_, or-false}
 use Prim.Native.Nat.{ℕ, _-_}
 use lib.ListN.{getD}
 use lib.Dec.{eqb, leb}
-use Rattle.rules.specs.Limits.{ESCROW-LEN, JOURNAL-LEN, RELEASE, REFUND, ADMIN, ESCROWS, ENTRIES, FROM, ESCROW-DEADLINE, ESCROW-STATE, IS-OPEN}
+use Rattle.rules.specs.Limits.{JOURNAL-LEN, RELEASE, REFUND, ADMIN, ESCROWS, ENTRIES, FROM, ESCROW-DEADLINE, ESCROW-STATE, IS-OPEN}
 use Rattle.rules.specs.Table.{word}
-use Rattle.rules.specs.Ledger.{Ledger, ledger, escrow, escrowCount, entryCount, written, full}
+use Rattle.rules.specs.Ledger.{Ledger, ledgerOf, escrow, escrowCount, entryCount, written, full}
 use Rattle.rules.specs.Refusals.{Refusal, row, first, clear, ofEscrow, releasable, operationRefusals}
+use Rattle.rules.specs.declared.Edition.{Edition}
 use Rattle.rules.specs.declared.Submission.{Submission}
 use Rattle.holds.specs.Named.{rowNamed}
 use Rattle.holds.proofs.Numbers.{named}
@@ -32,20 +33,20 @@ unfolding operationRefusals ofClosing
 refund-rows L s o = simp (o, or-false)
 
 pub closing-by :
-    (h w e r j : List ℕ) (s : Submission) (i from deadline state r27 r28 r29 r40 : ℕ)
+    (ed : Edition) (h w e r j : List ℕ) (s : Submission) (i from deadline state r27 r28 r29 r40 : ℕ)
     → (s .op ≡ RELEASE) ⊎ (s .op ≡ REFUND)
     → i ≡ rowNamed (getD h ESCROWS 0) (s .target)
-    → from ≡ word e ESCROW-LEN i FROM
-    → deadline ≡ word e ESCROW-LEN i ESCROW-DEADLINE
-    → state ≡ word e ESCROW-LEN i ESCROW-STATE
+    → from ≡ word e (ed .escrow) i FROM
+    → deadline ≡ word e (ed .escrow) i ESCROW-DEADLINE
+    → state ≡ word e (ed .escrow) i ESCROW-STATE
     → r40 ≡ cond (full JOURNAL-LEN j (getD h ENTRIES 0)) 40 0
     → r29 ≡ cond (written (getD h ESCROWS 0) (s .target) && not (eqb state IS-OPEN && leb (s .now) deadline)) 29 r40
     → r28 ≡ cond (written (getD h ESCROWS 0) (s .target) && (not (eqb (s .signer) from) && clear s ADMIN)) 28 r29
     → r27 ≡ cond (not (written (getD h ESCROWS 0) (s .target))) 27 r28
-    → r27 ≡ first (operationRefusals (ledger h w e r j) s)
+    → r27 ≡ first (operationRefusals (ledgerOf ed h w e r j) s)
 unfolding ofClosing
-closing-by h w e r j s i from deadline state r27 r28 r29 r40 o a b d f c40 c29 c28 c27 =
-    let x = named (getD h ESCROWS 0) (s .target) i (λ i. not (eqb (s .signer) (word e ESCROW-LEN i FROM)) && clear s ADMIN) a in
-    let y = named (getD h ESCROWS 0) (s .target) i (λ i. not (eqb (word e ESCROW-LEN i ESCROW-STATE) IS-OPEN && leb (s .now) (word e ESCROW-LEN i ESCROW-DEADLINE))) a in
-    let picks : r27 ≡ first (ofClosing (ledger h w e r j) s) = cc in
+closing-by ed h w e r j s i from deadline state r27 r28 r29 r40 o a b d f c40 c29 c28 c27 =
+    let x = named (getD h ESCROWS 0) (s .target) i (λ i. not (eqb (s .signer) (word e (ed .escrow) i FROM)) && clear s ADMIN) a in
+    let y = named (getD h ESCROWS 0) (s .target) i (λ i. not (eqb (word e (ed .escrow) i ESCROW-STATE) IS-OPEN && leb (s .now) (word e (ed .escrow) i ESCROW-DEADLINE))) a in
+    let picks : r27 ≡ first (ofClosing (ledgerOf ed h w e r j) s) = cc in
     picks ∙ sym (⊎-elim (release-rows _ s) (refund-rows _ s) o)

@@ -9,8 +9,9 @@ use lib.ListN.{getD}
 use lib.Dec.{eqb}
 use Rattle.rules.specs.Limits.{RECEIPT-LEN, JOURNAL-LEN, ACCEPT, DISPUTE, REASON-GIVEN, RECEIPTS, ENTRIES, REQUESTER, RECEIPT-STATE, PENDING}
 use Rattle.rules.specs.Table.{word}
-use Rattle.rules.specs.Ledger.{Ledger, ledger, receipt, receiptCount, entryCount, written, full}
+use Rattle.rules.specs.Ledger.{Ledger, ledgerOf, receipt, receiptCount, entryCount, written, full}
 use Rattle.rules.specs.Refusals.{Refusal, row, first, clear, ofReceipt, operationRefusals}
+use Rattle.rules.specs.declared.Edition.{Edition}
 use Rattle.rules.specs.declared.Submission.{Submission}
 use Rattle.holds.specs.Named.{rowNamed}
 use Rattle.holds.proofs.Numbers.{named}
@@ -33,7 +34,7 @@ unfolding operationRefusals ofReply
 dispute-rows L s o = simp o
 
 pub reply-by :
-    (h w e r j : List ℕ) (s : Submission) (i requester state r32 r33 r34 r35 r40 : ℕ)
+    (ed : Edition) (h w e r j : List ℕ) (s : Submission) (i requester state r32 r33 r34 r35 r40 : ℕ)
     → (s .op ≡ ACCEPT) ⊎ (s .op ≡ DISPUTE)
     → i ≡ rowNamed (getD h RECEIPTS 0) (s .target)
     → requester ≡ word r RECEIPT-LEN i REQUESTER
@@ -43,10 +44,10 @@ pub reply-by :
     → r34 ≡ cond (written (getD h RECEIPTS 0) (s .target) && not (eqb state PENDING)) 34 r35
     → r33 ≡ cond (written (getD h RECEIPTS 0) (s .target) && not (eqb (s .signer) requester)) 33 r34
     → r32 ≡ cond (not (written (getD h RECEIPTS 0) (s .target))) 32 r33
-    → r32 ≡ first (operationRefusals (ledger h w e r j) s)
+    → r32 ≡ first (operationRefusals (ledgerOf ed h w e r j) s)
 unfolding ofReply
-reply-by h w e r j s i requester state r32 r33 r34 r35 r40 o a b d c40 c35 c34 c33 c32 =
+reply-by ed h w e r j s i requester state r32 r33 r34 r35 r40 o a b d c40 c35 c34 c33 c32 =
     let x = named (getD h RECEIPTS 0) (s .target) i (λ i. not (eqb (s .signer) (word r RECEIPT-LEN i REQUESTER))) a in
     let y = named (getD h RECEIPTS 0) (s .target) i (λ i. not (eqb (word r RECEIPT-LEN i RECEIPT-STATE) PENDING)) a in
-    let picks : r32 ≡ first (ofReply (ledger h w e r j) s) = cc in
+    let picks : r32 ≡ first (ofReply (ledgerOf ed h w e r j) s) = cc in
     picks ∙ sym (⊎-elim (accept-rows _ s) (dispute-rows _ s) o)

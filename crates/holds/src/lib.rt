@@ -1,20 +1,20 @@
 // Checks 15 to 40 of the operations on escrows and receipts: release and refund, claim, accept and dispute.
 ghost use mathlib.Core.Path.{_≡_};
-ghost use mathlib.Core.List.{List};
 ghost use mathlib.Core.Logic.{_⊎_};
-ghost use Prim.Native.Nat.{ℕ, _*_, _≤_, _<_};
+ghost use Prim.Native.Nat.{_*_, _≤_, _<_};
 ghost use lib.ListN.{getD, length};
 ghost use Rattle.rules.specs.Limits.{WALLET-LEN, MAX-ESCROWS, MAX-RECEIPTS, LAST-TIME-MS, RELEASE, REFUND, CLAIM, ACCEPT, DISPUTE};
 ghost use Rattle.rules.specs.Limits.{WALLETS, ESCROWS, RECEIPTS, ENTRIES};
-ghost use Rattle.rules.specs.Ledger.{ledger};
+ghost use Rattle.rules.specs.Ledger.{Ledger, Sized};
+ghost use Rattle.rules.specs.Moments.{lent, any, _of-edition_, _with-header_, _with-escrows_, _with-receipts_, _with-journal_};
 ghost use Rattle.rules.specs.Refusals.{first, operationRefusals};
 ghost use Rattle.holds.specs.Named.{rowNamed};
+use rules::Edition;
 use rules::Submission;
 use rules::limits::ADMIN;
 use rules::limits::DISPUTE;
 use rules::limits::ENTRIES;
 use rules::limits::ESCROW_DEADLINE;
-use rules::limits::ESCROW_LEN;
 use rules::limits::ESCROW_STATE;
 use rules::limits::ESCROWS;
 use rules::limits::FROM;
@@ -43,16 +43,22 @@ pub fn row_of(count: u64, number: u64) -> usize
 }
 
 // A release or a refund: checks 27 to 29, 40.
-pub fn closing_refusal(header: &[u64], escrows: &[u64], journal: &[u64], s: Submission) -> u64
-    requires { ⌜ (ENTRIES < length (now header)) × (getD (now header) ESCROWS 0 ≤ MAX-ESCROWS) × ((s .op ≡ RELEASE) ⊎ (s .op ≡ REFUND)) ⌝ }
-    ensures { λ x. ⌜ ((w r : List ℕ) → x ≡ first (operationRefusals (ledger (now (header .entry)) w (now (escrows .entry)) r (now (journal .entry))) s)) ⌝ }
+pub fn closing_refusal(
+    edition: Edition,
+    header: &[u64],
+    escrows: &[u64],
+    journal: &[u64],
+    s: Submission,
+) -> u64
+    requires { ⌜ (ENTRIES < length (now header)) × (getD (now header) ESCROWS 0 ≤ MAX-ESCROWS) × ((s .op ≡ RELEASE) ⊎ (s .op ≡ REFUND)) × Sized edition ⌝ }
+    ensures { λ x. ⌜ ((K : Ledger) → let L = any K of-edition edition with-header header with-escrows escrows with-journal journal in x ≡ first (operationRefusals (L .entry) s)) ⌝ }
 {
     let count = header[ESCROWS];
     let entries = header[ENTRIES] as usize;
     let row = row_of(count, s.target);
-    let from = rows::get(escrows, ESCROW_LEN, row, FROM);
-    let deadline = rows::get(escrows, ESCROW_LEN, row, ESCROW_DEADLINE);
-    let state = rows::get(escrows, ESCROW_LEN, row, ESCROW_STATE);
+    let from = rows::get(escrows, edition.escrow, row, FROM);
+    let deadline = rows::get(escrows, edition.escrow, row, ESCROW_DEADLINE);
+    let state = rows::get(escrows, edition.escrow, row, ESCROW_STATE);
     let there = (0 < s.target) & (s.target <= count);
     let signer_not_authorized = there & ((s.signer != from) & (s.flags / ADMIN % 2 == 0));
     let not_open = there & !((state == IS_OPEN) & (s.now <= deadline));
@@ -65,6 +71,7 @@ pub fn closing_refusal(header: &[u64], escrows: &[u64], journal: &[u64], s: Subm
 
 // A claim: checks 15, 22 to 27, 29 to 31, 39, 40.
 pub fn claim_refusal(
+    edition: Edition,
     header: &[u64],
     wallets: &[u64],
     escrows: &[u64],
@@ -72,8 +79,8 @@ pub fn claim_refusal(
     journal: &[u64],
     s: Submission,
 ) -> u64
-    requires { ⌜ (ENTRIES < length (now header)) × (getD (now header) ESCROWS 0 ≤ MAX-ESCROWS) × (getD (now header) WALLETS 0 * WALLET-LEN ≤ length (now wallets)) × (s .issued ≤ LAST-TIME-MS) × (s .op ≡ CLAIM) ⌝ }
-    ensures { λ x. ⌜ x ≡ first (operationRefusals (ledger (now (header .entry)) (now (wallets .entry)) (now (escrows .entry)) (now (receipts .entry)) (now (journal .entry))) s) ⌝ }
+    requires { ⌜ (ENTRIES < length (now header)) × (getD (now header) ESCROWS 0 ≤ MAX-ESCROWS) × (getD (now header) WALLETS 0 * WALLET-LEN ≤ length (now wallets)) × (s .issued ≤ LAST-TIME-MS) × (s .op ≡ CLAIM) × Sized edition ⌝ }
+    ensures { λ x. ⌜ x ≡ first (operationRefusals (lent edition header wallets escrows receipts journal .entry) s) ⌝ }
 {
     let count = header[WALLETS] as usize;
     let held = header[ESCROWS];
@@ -82,10 +89,10 @@ pub fn claim_refusal(
     let provider = rows::find_row(wallets, count, s.signer);
     let requester = rows::find_row(wallets, count, s.target);
     let row = row_of(held, s.link);
-    let from = rows::get(escrows, ESCROW_LEN, row, FROM);
-    let to = rows::get(escrows, ESCROW_LEN, row, TO);
-    let deadline = rows::get(escrows, ESCROW_LEN, row, ESCROW_DEADLINE);
-    let state = rows::get(escrows, ESCROW_LEN, row, ESCROW_STATE);
+    let from = rows::get(escrows, edition.escrow, row, FROM);
+    let to = rows::get(escrows, edition.escrow, row, TO);
+    let deadline = rows::get(escrows, edition.escrow, row, ESCROW_DEADLINE);
+    let state = rows::get(escrows, edition.escrow, row, ESCROW_STATE);
     let linked = s.link != 0;
     let there = (0 < s.link) & (s.link <= held);
     let recipient_invalid = (s.target == 0) | (s.target == s.signer);
@@ -115,7 +122,7 @@ pub fn claim_refusal(
 // An accept or a dispute: checks 32 to 35, 40.
 pub fn reply_refusal(header: &[u64], receipts: &[u64], journal: &[u64], s: Submission) -> u64
     requires { ⌜ (ENTRIES < length (now header)) × (getD (now header) RECEIPTS 0 ≤ MAX-RECEIPTS) × ((s .op ≡ ACCEPT) ⊎ (s .op ≡ DISPUTE)) ⌝ }
-    ensures { λ x. ⌜ ((w e : List ℕ) → x ≡ first (operationRefusals (ledger (now (header .entry)) w e (now (receipts .entry)) (now (journal .entry))) s)) ⌝ }
+    ensures { λ x. ⌜ ((K : Ledger) → let L = any K with-header header with-receipts receipts with-journal journal in x ≡ first (operationRefusals (L .entry) s)) ⌝ }
 {
     let count = header[RECEIPTS];
     let entries = header[ENTRIES] as usize;

@@ -1,5 +1,2 @@
--- Laws that the public calls rest on.
-pub mod Starts
-pub mod Parts
-pub mod Submits
+-- That each contract permits one answer.
 pub mod One

@@ -4,47 +4,22 @@ ghost use Rattle.rules.specs.Ledger.{first-edition};
 ghost use Rattle.rules.specs.Lookup.{escrowPlace, escrowPart, receiptPlace, receiptPart, walletNumber};
 ghost use Rattle.rows.specs.Part.{placed};
 use rules::EscrowNumber;
+use rules::FIRST;
 use rules::ReceiptNumber;
 use rules::WalletNumber;
-use rules::limits::ESCROW_LEN;
-use rules::limits::ESCROWS;
-use rules::limits::HEADER_LEN;
-use rules::limits::MAX_ESCROWS;
-use rules::limits::MAX_RECEIPTS;
-use rules::limits::MAX_WALLETS;
-use rules::limits::RECEIPT_LEN;
-use rules::limits::RECEIPTS;
-use rules::limits::WALLET_LEN;
-use rules::limits::WALLETS;
 
 // Where an escrow's row starts in the table, in words; the table's length where it is not written.
 pub fn escrow_place(header: &[u64], escrows: &[u64], n: EscrowNumber) -> usize
     ensures { λ r. ⌜ r ≡ escrowPlace first-edition (now (header .entry)) (now (escrows .entry)) (n .0) ⌝ }
 {
-    rows::row_place(
-        header,
-        escrows,
-        HEADER_LEN,
-        ESCROWS,
-        ESCROW_LEN,
-        MAX_ESCROWS,
-        n.0,
-    )
+    editions::lookups::escrow_place(FIRST, header, escrows, n)
 }
 
 // The same of a receipt.
 pub fn receipt_place(header: &[u64], receipts: &[u64], n: ReceiptNumber) -> usize
     ensures { λ r. ⌜ r ≡ receiptPlace first-edition (now (header .entry)) (now (receipts .entry)) (n .0) ⌝ }
 {
-    rows::row_place(
-        header,
-        receipts,
-        HEADER_LEN,
-        RECEIPTS,
-        RECEIPT_LEN,
-        MAX_RECEIPTS,
-        n.0,
-    )
+    editions::lookups::receipt_place(FIRST, header, receipts, n)
 }
 
 // That very row of an escrow, or an empty part.
@@ -52,8 +27,7 @@ pub fn escrow_row<'a>(header: &[u64], escrows: &'a [u64], n: EscrowNumber) -> &'
     ensures { λ r. ⌜ (now r ≡ escrowPart first-edition (now (header .entry)) (now (escrows .entry)) (n .0))
         × (r .ptr ≡ placed (escrows .entry .ptr) (escrowPlace first-edition (now (header .entry)) (now (escrows .entry)) (n .0))) ⌝ }
 {
-    let place = escrow_place(header, escrows, n);
-    rows::row_part(escrows, ESCROW_LEN, place)
+    editions::lookups::escrow_row(FIRST, header, escrows, n)
 }
 
 // That very row of a receipt, or an empty part.
@@ -61,30 +35,12 @@ pub fn receipt_row<'a>(header: &[u64], receipts: &'a [u64], n: ReceiptNumber) ->
     ensures { λ r. ⌜ (now r ≡ receiptPart first-edition (now (header .entry)) (now (receipts .entry)) (n .0))
         × (r .ptr ≡ placed (receipts .entry .ptr) (receiptPlace first-edition (now (header .entry)) (now (receipts .entry)) (n .0))) ⌝ }
 {
-    let place = receipt_place(header, receipts, n);
-    rows::row_part(receipts, RECEIPT_LEN, place)
+    editions::lookups::receipt_row(FIRST, header, receipts, n)
 }
 
 // The number of the first written wallet with the id; 0 where there is none.
 pub fn wallet_row(header: &[u64], wallets: &[u64], id: u64) -> WalletNumber
     ensures { λ r. ⌜ r .0 ≡ walletNumber first-edition (now (header .entry)) (now (wallets .entry)) id ⌝ }
 {
-    let right = rows::count_right(
-        header,
-        wallets,
-        HEADER_LEN,
-        WALLETS,
-        WALLET_LEN,
-        MAX_WALLETS,
-    );
-    if !right | (id == 0) {
-        return WalletNumber(0);
-    }
-    let n = rows::at(header, WALLETS) as usize;
-    let row = rows::find_row(wallets, n, id);
-    if row < n {
-        WalletNumber(row as u64 + 1)
-    } else {
-        WalletNumber(0)
-    }
+    editions::lookups::wallet_row(FIRST, header, wallets, id)
 }

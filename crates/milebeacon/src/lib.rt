@@ -1,8 +1,9 @@
 // Entry points for a host in Rust or C. Each only passes on to the core's own call and repeats its contract, so nothing new is decided here.
 // A slice is a pointer, then a count of elements.
 ghost use mathlib.Core.Path.{_≡_};
-ghost use Rattle.rules.specs.Ledger.{first-edition, ledger, outcome, fresh};
+ghost use Rattle.rules.specs.Ledger.{first-edition, outcome, fresh};
 ghost use Rattle.rules.specs.Lookup.{escrowPlace, receiptPlace, walletNumber};
+ghost use Rattle.rules.specs.Moments.{lent};
 ghost use Rattle.rules.specs.Record.{Written, readOf, writeOf};
 ghost use Rattle.rules.specs.Status.{statusOf};
 ghost use Rattle.rules.specs.Submit.{submit};
@@ -22,8 +23,7 @@ pub extern "C" fn milebeacon_submit(
     journal: &mut [u64],
     bytes: &[u8],
 ) -> Answer
-    ensures { λ x. ⌜ outcome (x .number) (x .word) (ledger (now (header .exit)) (now (wallets .exit)) (now (escrows .exit)) (now (receipts .exit)) (now (journal .exit)))
-        ≡ submit (ledger (now (header .entry)) (now (wallets .entry)) (now (escrows .entry)) (now (receipts .entry)) (now (journal .entry))) (now (bytes .entry)) ⌝ }
+    ensures { λ x. ⌜ (let L = lent first-edition header wallets escrows receipts journal in outcome (x .number) (x .word) (L .exit) ≡ submit (L .entry) (now (bytes .entry))) ⌝ }
 {
     ledger::submit(header, wallets, escrows, receipts, journal, bytes)
 }
@@ -37,8 +37,7 @@ pub extern "C" fn milebeacon_fresh(
     receipts: &mut [u64],
     journal: &mut [u64],
 ) -> u64
-    ensures { λ x. ⌜ outcome x 0 (ledger (now (header .exit)) (now (wallets .exit)) (now (escrows .exit)) (now (receipts .exit)) (now (journal .exit)))
-        ≡ fresh (ledger (now (header .entry)) (now (wallets .entry)) (now (escrows .entry)) (now (receipts .entry)) (now (journal .entry))) ⌝ }
+    ensures { λ x. ⌜ (let L = lent first-edition header wallets escrows receipts journal in outcome x 0 (L .exit) ≡ fresh (L .entry)) ⌝ }
 {
     ledger::fresh(header, wallets, escrows, receipts, journal)
 }

@@ -7,17 +7,19 @@ use Prim.Native.Nat.{ℕ, _+_, _-_, _<_, _≤_, _^_}
 use native.Mathlib.Omega.{arith}
 use lib.ListN.{getD}
 use lib.Dec.{eqb, lit<}
-use Rattle.rules.specs.Limits.{ESCROW-LEN, WALLET-LEN, WALLETS, BALANCE, LOCKED, FROM, TO, ESCROW-AMOUNT, ESCROW-STATE, ESCROW-CLOSED-AT, ESCROW-CLOSED-BY, RELEASED}
+use Rattle.rules.specs.Limits.{WALLET-LEN, WALLETS, BALANCE, LOCKED, FROM, TO, ESCROW-AMOUNT, ESCROW-STATE, ESCROW-CLOSED-AT, ESCROW-CLOSED-BY, RELEASED}
 use Rattle.rules.specs.Table.{word, put}
-use Rattle.rules.specs.Ledger.{ledger, rowOf, putWallet, putEscrow}
+use Rattle.rules.specs.Ledger.{Ledger, setEdition, setEscrows, rowOf, putWallet, putEscrow}
+use Rattle.rules.specs.declared.Edition.{Edition}
 use Rattle.rules.specs.Settle.{raise, lower, endEscrow}
 use Rattle.rules.proofs.Rows.{word-col}
 use Rattle.rules.proofs.Accounts.{row-put}
+use Rattle.rules.proofs.UpTo.{upToWallets, upToEscrows}
 use Rattle.moves.specs.Needs.{Ends, rowIn}
 use Rattle.moves.proofs.Wallets.{row-small}
 
-module _ (h w e : List ℕ) (i from to amount sender payee state : ℕ) (ends : Ends h w e i)
-    (f : from ≡ word e ESCROW-LEN i FROM) (t : to ≡ word e ESCROW-LEN i TO) (a : amount ≡ word e ESCROW-LEN i ESCROW-AMOUNT)
+module _ (ed : Edition) (h w e : List ℕ) (i from to amount sender payee state : ℕ) (ends : Ends ed h w e i)
+    (f : from ≡ word e (ed .escrow) i FROM) (t : to ≡ word e (ed .escrow) i TO) (a : amount ≡ word e (ed .escrow) i ESCROW-AMOUNT)
     (s : sender ≡ rowIn h w from) (p : payee ≡ rowIn h w (cond (eqb state RELEASED) to from)) where
   pub can-lower : (sender < 2 ^ 32) × (LOCKED < 2 ^ 16) × (amount ≤ word w WALLET-LEN sender LOCKED)
   can-lower = (
@@ -51,20 +53,21 @@ same-row w n f p a x =
     (sym (row-put w n (rowOf w n f) LOCKED x (lit< tt) (omega arith) p))
 
 pub ended :
-    (h w e r j w₁ w₂ e₁ : List ℕ) (i from to amount sender payee state now signer : ℕ)
-    → from ≡ word e ESCROW-LEN i FROM
-    → to ≡ word e ESCROW-LEN i TO
-    → amount ≡ word e ESCROW-LEN i ESCROW-AMOUNT
+    (K : Ledger) (ed : Edition) (h w e w₁ w₂ e₁ : List ℕ) (i from to amount sender payee state now signer : ℕ)
+    → from ≡ word e (ed .escrow) i FROM
+    → to ≡ word e (ed .escrow) i TO
+    → amount ≡ word e (ed .escrow) i ESCROW-AMOUNT
     → sender ≡ rowIn h w from
     → payee ≡ rowIn h w (cond (eqb state RELEASED) to from)
-    → ((h w r j : List ℕ) → ledger h w e₁ r j ≡ putEscrow i ESCROW-CLOSED-BY signer (putEscrow i ESCROW-CLOSED-AT now (putEscrow i ESCROW-STATE state (ledger h w e r j))))
+    → ((K : Ledger) → setEscrows e₁ (setEdition ed K)
+    ≡ putEscrow i ESCROW-CLOSED-BY signer (putEscrow i ESCROW-CLOSED-AT now (putEscrow i ESCROW-STATE state (setEscrows e (setEdition ed K)))))
     → w₁ ≡ put w WALLET-LEN sender LOCKED (word w WALLET-LEN sender LOCKED - amount)
     → w₂ ≡ put w₁ WALLET-LEN payee BALANCE (word w₁ WALLET-LEN payee BALANCE + amount)
-    → ledger h w₂ e₁ r j ≡ endEscrow state now signer i (ledger h w e r j)
+    → upToEscrows K ed h w₂ e₁ ≡ endEscrow state now signer i (upToEscrows K ed h w e)
 unfolding endEscrow raise lower putWallet
-ended h w e r j w₁ w₂ e₁ i from to amount sender payee state now signer f t a s p x y z =
-    rw (z, y, s, p, f, t, a, ← x h w r j)
-    (ap (λ (ws : List ℕ). ledger h ws e₁ r j)
-    (same-row w (getD h WALLETS 0) (word e ESCROW-LEN i FROM) (cond (eqb state RELEASED) (word e ESCROW-LEN i TO) (word e ESCROW-LEN i FROM))
-    (word e ESCROW-LEN i ESCROW-AMOUNT)
-    (word w WALLET-LEN (rowOf w (getD h WALLETS 0) (word e ESCROW-LEN i FROM)) LOCKED - word e ESCROW-LEN i ESCROW-AMOUNT)))
+ended K ed h w e w₁ w₂ e₁ i from to amount sender payee state now signer f t a s p x y z =
+    rw (z, y, s, p, f, t, a, ← x (upToWallets K h w))
+    (ap (λ (ws : List ℕ). upToEscrows K ed h ws e₁)
+    (same-row w (getD h WALLETS 0) (word e (ed .escrow) i FROM) (cond (eqb state RELEASED) (word e (ed .escrow) i TO) (word e (ed .escrow) i FROM))
+    (word e (ed .escrow) i ESCROW-AMOUNT)
+    (word w WALLET-LEN (rowOf w (getD h WALLETS 0) (word e (ed .escrow) i FROM)) LOCKED - word e (ed .escrow) i ESCROW-AMOUNT)))

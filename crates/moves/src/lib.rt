@@ -1,5 +1,6 @@
 // Small moves on the lent tables: a row added, credits moved, a row closed, an escrow ended, a receipt accepted. Each says what its
 // tables hold afterwards; what it may rely on stands in specs/Needs.antt.
+use rules::Edition;
 use rules::EscrowNumber;
 use rules::ReceiptNumber;
 use rules::limits::ACCEPTED;
@@ -10,7 +11,6 @@ use rules::limits::ESCROW_AMOUNT;
 use rules::limits::ESCROW_CLOSED_AT;
 use rules::limits::ESCROW_CLOSED_BY;
 use rules::limits::ESCROW_DEADLINE;
-use rules::limits::ESCROW_LEN;
 use rules::limits::ESCROW_STATE;
 use rules::limits::FROM;
 use rules::limits::IS_OPEN;
@@ -27,14 +27,14 @@ use rules::limits::TO;
 use rules::limits::WALLET_LEN;
 use rules::limits::WALLETS;
 ghost use mathlib.Core.Path.{_≡_};
-ghost use mathlib.Core.List.{List};
 ghost use mathlib.Core.Bool.{cond};
-ghost use Prim.Native.Nat.{ℕ, _+_, _-_, _*_, _<_, _≤_, _^_};
+ghost use Prim.Native.Nat.{_+_, _-_, _*_, _<_, _≤_, _^_};
 ghost use lib.ListN.{length, getD, set};
 ghost use lib.Dec.{eqb};
 ghost use Rattle.rules.specs.Limits.{WALLET-LEN, WALLETS, ESCROW-STATE, ESCROW-CLOSED-AT, ESCROW-CLOSED-BY, RELEASED};
 ghost use Rattle.rules.specs.Table.{word, put, putRow};
-ghost use Rattle.rules.specs.Ledger.{ledger, rowOf, putEscrow};
+ghost use Rattle.rules.specs.Ledger.{Ledger, rowOf, putEscrow};
+ghost use Rattle.rules.specs.Moments.{any, _of-edition_, _with-header_, _with-wallets_, _with-escrows_, _with-receipts_};
 ghost use Rattle.rules.specs.Settle.{ensureWallet, endEscrow, closeReceipt, acceptRow, done};
 ghost use Rattle.moves.specs.Needs.{Counted, Ends, Accepts, releasableIn};
 
@@ -70,7 +70,7 @@ pub fn raise(wallets: &mut [u64], row: usize, k: usize, amount: u64)
 // A missing wallet is made: zeros and the usual caps. `row` is where the search for it ended.
 pub fn ensure_wallet(header: &mut [u64], wallets: &mut [u64], row: usize, id: u64)
     requires { ⌜ Counted (now header) (now wallets) × (row ≡ rowOf (now wallets) (getD (now header) WALLETS 0) id) ⌝ }
-    ensures { λ x. ⌜ ((e r j : List ℕ) → ledger (now (header .exit)) (now (wallets .exit)) e r j ≡ ensureWallet id (ledger (now (header .entry)) (now (wallets .entry)) e r j)) ⌝ }
+    ensures { λ x. ⌜ ((K : Ledger) → let L = any K with-header header with-wallets wallets in L .exit ≡ ensureWallet id (L .entry)) ⌝ }
 {
     let written = header[WALLETS] as usize;
     if row < written {
@@ -105,17 +105,25 @@ fn payee_row(
 }
 
 // State, closed at and closing signer of an escrow.
-fn close_escrow(escrows: &mut [u64], row: usize, state: u64, time: u64, signer: u64)
-    requires { ⌜ row < 2 ^ 32 ⌝ }
-    ensures { λ x. ⌜ ((h w r j : List ℕ) → ledger h w (now (escrows .exit)) r j ≡ putEscrow row ESCROW-CLOSED-BY signer (putEscrow row ESCROW-CLOSED-AT time (putEscrow row ESCROW-STATE state (ledger h w (now (escrows .entry)) r j)))) ⌝ }
+fn close_escrow(
+    edition: Edition,
+    escrows: &mut [u64],
+    row: usize,
+    state: u64,
+    time: u64,
+    signer: u64,
+)
+    requires { ⌜ (row < 2 ^ 32) × (edition .escrow < 2 ^ 16) ⌝ }
+    ensures { λ x. ⌜ ((K : Ledger) → let L = any K of-edition edition with-escrows escrows in L .exit ≡ putEscrow row ESCROW-CLOSED-BY signer (putEscrow row ESCROW-CLOSED-AT time (putEscrow row ESCROW-STATE state (L .entry)))) ⌝ }
 {
-    rows::set(escrows, ESCROW_LEN, row, ESCROW_STATE, state);
-    rows::set(escrows, ESCROW_LEN, row, ESCROW_CLOSED_AT, time);
-    rows::set(escrows, ESCROW_LEN, row, ESCROW_CLOSED_BY, signer);
+    rows::set(escrows, edition.escrow, row, ESCROW_STATE, state);
+    rows::set(escrows, edition.escrow, row, ESCROW_CLOSED_AT, time);
+    rows::set(escrows, edition.escrow, row, ESCROW_CLOSED_BY, signer);
 }
 
 // An escrow ends: its credits leave its sender's locked for the recipient's balance if it is released, else for the sender's own.
 pub fn end_escrow(
+    edition: Edition,
     header: &[u64],
     wallets: &mut [u64],
     escrows: &mut [u64],
@@ -124,17 +132,17 @@ pub fn end_escrow(
     time: u64,
     signer: u64,
 )
-    requires { ⌜ (1 ≤ number .0) × Ends (now header) (now wallets) (now escrows) (number .0 - 1) ⌝ }
-    ensures { λ x. ⌜ ((r j : List ℕ) → ledger (now (header .entry)) (now (wallets .exit)) (now (escrows .exit)) r j ≡ endEscrow state time signer (number .0 - 1) (ledger (now (header .entry)) (now (wallets .entry)) (now (escrows .entry)) r j)) ⌝ }
+    requires { ⌜ (1 ≤ number .0) × Ends edition (now header) (now wallets) (now escrows) (number .0 - 1) ⌝ }
+    ensures { λ x. ⌜ ((K : Ledger) → let L = any K of-edition edition with-header header with-wallets wallets with-escrows escrows in L .exit ≡ endEscrow state time signer (number .0 - 1) (L .entry)) ⌝ }
 {
     let row = (number.0 - 1) as usize;
-    let from = rows::get(escrows, ESCROW_LEN, row, FROM);
-    let to = rows::get(escrows, ESCROW_LEN, row, TO);
-    let amount = rows::get(escrows, ESCROW_LEN, row, ESCROW_AMOUNT);
+    let from = rows::get(escrows, edition.escrow, row, FROM);
+    let to = rows::get(escrows, edition.escrow, row, TO);
+    let amount = rows::get(escrows, edition.escrow, row, ESCROW_AMOUNT);
     let written = header[WALLETS] as usize;
     let sender = rows::find_row(wallets, written, from);
     let payee = payee_row(wallets, written, state, sender, from, to);
-    close_escrow(escrows, row, state, time, signer);
+    close_escrow(edition, escrows, row, state, time, signer);
     lower(wallets, sender, LOCKED, amount);
     raise(wallets, payee, BALANCE, amount);
 }
@@ -148,7 +156,7 @@ pub fn close_receipt(
     signer: u64,
 )
     requires { ⌜ (1 ≤ number .0) × (number .0 - 1 < 2 ^ 32) ⌝ }
-    ensures { λ x. ⌜ ((h w e j : List ℕ) → ledger h w e (now (receipts .exit)) j ≡ closeReceipt state time signer (number .0 - 1) (ledger h w e (now (receipts .entry)) j)) ⌝ }
+    ensures { λ x. ⌜ ((K : Ledger) → let L = any K with-receipts receipts in L .exit ≡ closeReceipt state time signer (number .0 - 1) (L .entry)) ⌝ }
 {
     let row = (number.0 - 1) as usize;
     rows::set(receipts, RECEIPT_LEN, row, RECEIPT_STATE, state);
@@ -157,17 +165,18 @@ pub fn close_receipt(
 }
 
 // Whether an escrow is open and not stale.
-fn is_releasable(escrows: &[u64], row: usize, time: u64) -> bool
-    requires { ⌜ row < 2 ^ 32 ⌝ }
-    ensures { λ x. ⌜ x ≡ releasableIn (now (escrows .entry)) time row ⌝ }
+fn is_releasable(edition: Edition, escrows: &[u64], row: usize, time: u64) -> bool
+    requires { ⌜ (row < 2 ^ 32) × (edition .escrow < 2 ^ 16) ⌝ }
+    ensures { λ x. ⌜ x ≡ releasableIn edition (now (escrows .entry)) time row ⌝ }
 {
-    let state = rows::get(escrows, ESCROW_LEN, row, ESCROW_STATE);
-    let deadline = rows::get(escrows, ESCROW_LEN, row, ESCROW_DEADLINE);
+    let state = rows::get(escrows, edition.escrow, row, ESCROW_STATE);
+    let deadline = rows::get(escrows, edition.escrow, row, ESCROW_DEADLINE);
     (state == IS_OPEN) & (time <= deadline)
 }
 
 // A receipt is accepted. Its escrow is released if it is open and not stale, and is the word; if that is impossible, 29 is stored.
 pub fn accept_receipt(
+    edition: Edition,
     header: &[u64],
     wallets: &mut [u64],
     escrows: &mut [u64],
@@ -176,8 +185,8 @@ pub fn accept_receipt(
     time: u64,
     signer: u64,
 ) -> u64
-    requires { ⌜ (1 ≤ number .0) × Accepts (now header) (now wallets) (now escrows) (now receipts) time (number .0 - 1) ⌝ }
-    ensures { λ x. ⌜ ((j : List ℕ) → done x (ledger (now (header .entry)) (now (wallets .exit)) (now (escrows .exit)) (now (receipts .exit)) j) ≡ acceptRow time signer (number .0 - 1) (ledger (now (header .entry)) (now (wallets .entry)) (now (escrows .entry)) (now (receipts .entry)) j)) ⌝ }
+    requires { ⌜ (1 ≤ number .0) × Accepts edition (now header) (now wallets) (now escrows) (now receipts) time (number .0 - 1) ⌝ }
+    ensures { λ x. ⌜ ((K : Ledger) → let L = any K of-edition edition with-header header with-wallets wallets with-escrows escrows with-receipts receipts in done x (L .exit) ≡ acceptRow time signer (number .0 - 1) (L .entry)) ⌝ }
 {
     let row = (number.0 - 1) as usize;
     let link = rows::get(receipts, RECEIPT_LEN, row, RECEIPT_LINK);
@@ -185,9 +194,18 @@ pub fn accept_receipt(
     if link == 0 {
         return 0;
     }
-    if is_releasable(escrows, (link - 1) as usize, time) {
+    if is_releasable(edition, escrows, (link - 1) as usize, time) {
         let escrow = EscrowNumber(link);
-        end_escrow(header, wallets, escrows, escrow, RELEASED, time, signer);
+        end_escrow(
+            edition,
+            header,
+            wallets,
+            escrows,
+            escrow,
+            RELEASED,
+            time,
+            signer,
+        );
         return link;
     }
     rows::set(receipts, RECEIPT_LEN, row, RELEASE_CODE, RELEASE_IMPOSSIBLE);

@@ -17,6 +17,7 @@ use Rattle.rules.specs.declared.Submission.{Submission}
 use Rattle.rules.proofs.Bools.{cond-case}
 use Rattle.rules.proofs.Rows.{room, word-old, word-new}
 use Rattle.rules.proofs.Accounts.{row-le, new-row-old, new-row-id}
+use Rattle.rules.proofs.UpTo.{upToWallets}
 use Rattle.moves.specs.Needs.{rowIn}
 use Rattle.moves.proofs.Wallets.{row-small}
 use Rattle.operations.specs.Needs.{Receiving, Granting}
@@ -29,6 +30,14 @@ pub record Made (h w h₁ w₁ : List ℕ) (id : ℕ) : Type 0 where
   pub words : (i k : ℕ) → i < getD h WALLETS 0 → k < WALLET-LEN → word w₁ WALLET-LEN i k ≡ word w WALLET-LEN i k
   pub balance : word w₁ WALLET-LEN (rowIn h w id) BALANCE ≤ MAX-GRANTED-MICRO
   pub others : (k : ℕ) → k ≢ WALLETS → getD h₁ k 0 ≡ getD h k 0
+
+-- what ensure_wallet says of the tables that it leaves
+abbrev pub Ensures : List ℕ → List ℕ → List ℕ → List ℕ → ℕ → Type 0
+Ensures h w h₁ w₁ id = (K : Ledger) → upToWallets K h₁ w₁ ≡ ensureWallet id (upToWallets K h w)
+
+-- it says it of any ledger: what follows for header and wallets follows from one
+abbrev pub some-ledger : Ledger
+some-ledger = ledger [] [] [] [] []
 
 module _ (h w : List ℕ) (s : Submission) (ready : Receiving h w s) where
   made-new : getD h WALLETS 0 ≤ rowIn h w (s .target)
@@ -59,19 +68,21 @@ module _ (h w : List ℕ) (s : Submission) (ready : Receiving h w s) where
     others = λ k ne. refl;
   }
 
-  pub made-by : (e r j : List ℕ) → Made h w (ensureWallet (s .target) (ledger h w e r j) .header) (ensureWallet (s .target) (ledger h w e r j) .wallets) (s .target)
+  pub made-by :
+      (K : Ledger)
+      → Made h w (ensureWallet (s .target) (upToWallets K h w) .header) (ensureWallet (s .target) (upToWallets K h w) .wallets) (s .target)
   unfolding ensureWallet newWallet putHead
-  made-by e r j =
-      cond-case (λ (K : Ledger). Made h w (K .header) (K .wallets) (s .target)) (hasWallet (ledger h w e r j) (s .target)) _ _
+  made-by K =
+      cond-case (λ (L : Ledger). Made h w (L .header) (L .wallets) (s .target)) (hasWallet (upToWallets K h w) (s .target)) _ _
       (λ x. made-found (ltb-true _ _ x)) (λ x. made-new (ltb-false _ _ x))
 
   -- the same of the tables that ensure_wallet leaves
-  pub made : (h₁ w₁ : List ℕ) → ((e r j : List ℕ) → ledger h₁ w₁ e r j ≡ ensureWallet (s .target) (ledger h w e r j)) → Made h w h₁ w₁ (s .target)
-  made h₁ w₁ q = subst (λ (K : Ledger). Made h w (K .header) (K .wallets) (s .target)) (sym (q [] [] [])) (made-by [] [] [])
+  pub made : (h₁ w₁ : List ℕ) → Ensures h w h₁ w₁ (s .target) → Made h w h₁ w₁ (s .target)
+  made h₁ w₁ q = subst (λ (L : Ledger). Made h w (L .header) (L .wallets) (s .target)) (sym (q some-ledger)) (made-by some-ledger)
 
 -- a grant
 module _ (h w h₁ w₁ : List ℕ) (s : Submission) (row : ℕ) (ready : Granting h w s) (x : row ≡ rowIn h w (s .target))
-    (q : (e r j : List ℕ) → ledger h₁ w₁ e r j ≡ ensureWallet (s .target) (ledger h w e r j)) where
+    (q : Ensures h w h₁ w₁ (s .target)) where
   pub can-grant : (row < 2 ^ 32) × (BALANCE < 2 ^ 16) × (word w₁ WALLET-LEN row BALANCE + s .amount < 2 ^ 64)
   can-grant =
       let b : word w₁ WALLET-LEN row BALANCE ≤ MAX-GRANTED-MICRO = rw x (made h w s (ready .receiving) h₁ w₁ q .balance) in
@@ -80,7 +91,6 @@ module _ (h w h₁ w₁ : List ℕ) (s : Submission) (row : ℕ) (ready : Granti
   pub granted-by :
       (w₂ : List ℕ)
       → w₂ ≡ put w₁ WALLET-LEN row BALANCE (word w₁ WALLET-LEN row BALANCE + s .amount)
-      → (e r j : List ℕ)
-      → done 0 (ledger (set h₁ GRANTED (getD h GRANTED 0 + s .amount)) w₂ e r j) ≡ grant s (ledger h w e r j)
+      → (K : Ledger) → done 0 (upToWallets K (set h₁ GRANTED (getD h GRANTED 0 + s .amount)) w₂) ≡ grant s (upToWallets K h w)
   unfolding grant putHead raise putWallet
-  granted-by w₂ y e r j = rw (← q e r j, made h w s (ready .receiving) h₁ w₁ q .self, y, x)
+  granted-by w₂ y K = rw (← q K, made h w s (ready .receiving) h₁ w₁ q .self, y, x)

@@ -7,17 +7,19 @@ use Prim.Native.Nat.{ℕ, _+_, _-_, _<_, _≤_, _^_}
 use native.Mathlib.Omega.{arith}
 use lib.ListN.{length, getD, set}
 use lib.Dec.{lit<}
-use Rattle.rules.specs.Limits.{ESCROW-LEN, WALLET-LEN, MAX-GRANTED-MICRO, WALLETS, ESCROWS, BALANCE, LOCKED, IS-OPEN}
+use Rattle.rules.specs.Limits.{WALLET-LEN, MAX-GRANTED-MICRO, WALLETS, ESCROWS, BALANCE, LOCKED, IS-OPEN}
 use Rattle.rules.specs.Table.{word, put, putRow}
-use Rattle.rules.specs.Ledger.{Ledger, ledger, putHead, putWallet, newEscrow}
+use Rattle.rules.specs.Ledger.{Ledger, putHead, putWallet, newEscrow}
 use Rattle.rules.specs.Settle.{ensureWallet, raise, lower, transfer, openEscrow, done}
+use Rattle.rules.specs.declared.Edition.{Edition}
 use Rattle.rules.specs.declared.Submission.{Submission}
 use Rattle.rules.proofs.Rows.{word-col, put-prop}
 use Rattle.rules.proofs.Accounts.{row-put}
+use Rattle.rules.proofs.UpTo.{upToWallets, upToEscrows}
 use Rattle.moves.specs.Needs.{rowIn}
 use Rattle.moves.proofs.Wallets.{row-small}
 use Rattle.operations.specs.Needs.{Paying, Opening}
-use Rattle.operations.proofs.Made.{Made, made, made-by}
+use Rattle.operations.proofs.Made.{Made, Ensures, some-ledger, made, made-by}
 
 -- h₁ and w₂ are h and w with a wallet of the target, and the amount gone from the signer's balance
 pub record Paid (h w h₁ w₂ : List ℕ) (s : Submission) : Type 0 where
@@ -27,6 +29,10 @@ pub record Paid (h w h₁ w₂ : List ℕ) (s : Submission) : Type 0 where
   pub balance : word w₂ WALLET-LEN (rowIn h w (s .target)) BALANCE + s .amount < 2 ^ 64
   pub locked : word w₂ WALLET-LEN (rowIn h w (s .signer)) LOCKED ≡ word w WALLET-LEN (rowIn h w (s .signer)) LOCKED
   pub others : (k : ℕ) → k ≢ WALLETS → getD h₁ k 0 ≡ getD h k 0
+
+-- what `pay` says of the tables that it leaves
+abbrev Pays : List ℕ → List ℕ → List ℕ → List ℕ → Submission → Type 0
+Pays h w h₁ w₂ s = (K : Ledger) → upToWallets K h₁ w₂ ≡ lower BALANCE (s .signer) (s .amount) (ensureWallet (s .target) (upToWallets K h w))
 
 module _ (h w : List ℕ) (s : Submission) (ready : Paying h w s) where
   -- the signer's balance after the target's wallet is made
@@ -39,7 +45,7 @@ module _ (h w : List ℕ) (s : Submission) (ready : Paying h w s) where
   pub can-pay :
       (h₁ w₁ : List ℕ) (signer : ℕ)
       → signer ≡ rowIn h w (s .signer)
-      → ((e r j : List ℕ) → ledger h₁ w₁ e r j ≡ ensureWallet (s .target) (ledger h w e r j))
+      → Ensures h w h₁ w₁ (s .target)
       → (signer < 2 ^ 32) × (BALANCE < 2 ^ 16) × (s .amount ≤ word w₁ WALLET-LEN signer BALANCE)
   can-pay h₁ w₁ signer x q =
       let m = made h w s (ready .receiving) h₁ w₁ q in (
@@ -51,12 +57,11 @@ module _ (h w : List ℕ) (s : Submission) (ready : Paying h w s) where
   pub paid-by :
       (h₁ w₁ w₂ : List ℕ) (signer : ℕ)
       → signer ≡ rowIn h w (s .signer)
-      → ((e r j : List ℕ) → ledger h₁ w₁ e r j ≡ ensureWallet (s .target) (ledger h w e r j))
+      → Ensures h w h₁ w₁ (s .target)
       → w₂ ≡ put w₁ WALLET-LEN signer BALANCE (word w₁ WALLET-LEN signer BALANCE - s .amount)
-      → (e r j : List ℕ)
-      → ledger h₁ w₂ e r j ≡ lower BALANCE (s .signer) (s .amount) (ensureWallet (s .target) (ledger h w e r j))
+      → Pays h w h₁ w₂ s
   unfolding lower putWallet
-  paid-by h₁ w₁ w₂ signer x q y e r j = rw (← q e r j, made h w s (ready .receiving) h₁ w₁ q .rows (s .signer) (ready .signer), y, x)
+  paid-by h₁ w₁ w₂ signer x q y K = rw (← q K, made h w s (ready .receiving) h₁ w₁ q .rows (s .signer) (ready .signer), y, x)
 
   paid-at :
       (h₁ w₁ : List ℕ) → Made h w h₁ w₁ (s .target)
@@ -79,43 +84,42 @@ module _ (h w : List ℕ) (s : Submission) (ready : Paying h w s) where
 
   pub paid :
       (h₁ w₂ : List ℕ)
-      → ((e r j : List ℕ) → ledger h₁ w₂ e r j ≡ lower BALANCE (s .signer) (s .amount) (ensureWallet (s .target) (ledger h w e r j)))
+      → Pays h w h₁ w₂ s
       → Paid h w h₁ w₂ s
   unfolding lower putWallet
   paid h₁ w₂ q =
-      subst (λ (K : Ledger). Paid h w (K .header) (K .wallets) s) (sym (q [] [] []))
-      (paid-at (ensureWallet (s .target) (ledger h w [] [] []) .header) (ensureWallet (s .target) (ledger h w [] [] []) .wallets)
-      (made-by h w s (ready .receiving) [] [] []))
+      let K : Ledger = ensureWallet (s .target) (upToWallets some-ledger h w) in
+      subst (λ (L : Ledger). Paid h w (L .header) (L .wallets) s) (sym (q some-ledger))
+      (paid-at (K .header) (K .wallets) (made-by h w s (ready .receiving) some-ledger))
 
 -- a transfer
 module _ (h w h₁ w₂ : List ℕ) (s : Submission) (target : ℕ) (ready : Paying h w s) (x : target ≡ rowIn h w (s .target))
-    (q : (e r j : List ℕ) → ledger h₁ w₂ e r j ≡ lower BALANCE (s .signer) (s .amount) (ensureWallet (s .target) (ledger h w e r j))) where
+    (q : Pays h w h₁ w₂ s) where
   pub can-transfer : (target < 2 ^ 32) × (BALANCE < 2 ^ 16) × (word w₂ WALLET-LEN target BALANCE + s .amount < 2 ^ 64)
   can-transfer = (rw x (row-small h w (s .target) (ready .receiving .counted)), lit< tt, rw x (paid h w s ready h₁ w₂ q .balance))
 
   pub transferred :
       (w₃ : List ℕ)
       → w₃ ≡ put w₂ WALLET-LEN target BALANCE (word w₂ WALLET-LEN target BALANCE + s .amount)
-      → (e r j : List ℕ)
-      → done 0 (ledger h₁ w₃ e r j) ≡ transfer s (ledger h w e r j)
+      → (K : Ledger) → done 0 (upToWallets K h₁ w₃) ≡ transfer s (upToWallets K h w)
   unfolding transfer raise putWallet
-  transferred w₃ y e r j = rw (← q e r j, paid h w s ready h₁ w₂ q .target, y, x)
+  transferred w₃ y K = rw (← q K, paid h w s ready h₁ w₂ q .target, y, x)
 
 -- an escrow opened
-module _ (h w h₁ w₂ : List ℕ) (s : Submission) (signer : ℕ) (ready : Opening h w s) (x : signer ≡ rowIn h w (s .signer))
-    (q : (e r j : List ℕ) → ledger h₁ w₂ e r j ≡ lower BALANCE (s .signer) (s .amount) (ensureWallet (s .target) (ledger h w e r j))) where
+module _ (ed : Edition) (h w h₁ w₂ : List ℕ) (s : Submission) (signer : ℕ) (ready : Opening ed h w s) (x : signer ≡ rowIn h w (s .signer))
+    (q : Pays h w h₁ w₂ s) where
   pub can-hold : (signer < 2 ^ 32) × (LOCKED < 2 ^ 16) × (word w₂ WALLET-LEN signer LOCKED + s .amount < 2 ^ 64)
   can-hold =
       let p = ready .paying in
       let b : word w₂ WALLET-LEN signer LOCKED ≤ MAX-GRANTED-MICRO = rw (x, paid h w s p h₁ w₂ q .locked) (ready .locked) in
       (rw x (row-small h w (s .signer) (p .receiving .counted)), lit< tt, omega (arith, p .receiving .amount))
 
-  pub can-open : (ESCROWS < length h₁) × (getD h₁ ESCROWS 0 < 2 ^ 32) × (ESCROW-LEN < 2 ^ 16) × (ESCROW-LEN < 2 ^ 16)
+  pub can-open : (ESCROWS < length h₁) × (getD h₁ ESCROWS 0 < 2 ^ 32) × (ed .escrow < 2 ^ 16) × (8 < 2 ^ 16)
   can-open =
       let p = paid h w s (ready .paying) h₁ w₂ q in (
         omega (arith, p .whole, ready .paying .receiving .counted .whole),
         omega (arith, p .others ESCROWS (omega arith), ready .escrows),
-        lit< tt,
+        ready .len,
         lit< tt,
       )
 
@@ -124,10 +128,9 @@ module _ (h w h₁ w₂ : List ℕ) (s : Submission) (signer : ℕ) (ready : Ope
       → w₃ ≡ put w₂ WALLET-LEN signer LOCKED (word w₂ WALLET-LEN signer LOCKED + s .amount)
       → number ≡ getD h₁ ESCROWS 0 + 1
       → h₂ ≡ set h₁ ESCROWS (getD h₁ ESCROWS 0 + 1)
-      → e₁ ≡ putRow e ESCROW-LEN (getD h₁ ESCROWS 0) (s .signer ∷ s .target ∷ s .amount ∷ s .until ∷ IS-OPEN ∷ s .now ∷ 0 ∷ 0 ∷ [])
-      → (r j : List ℕ)
-      → done number (ledger h₂ w₃ e₁ r j) ≡ openEscrow s (ledger h w e r j)
+      → e₁ ≡ putRow e (ed .escrow) (getD h₁ ESCROWS 0) (s .signer ∷ s .target ∷ s .amount ∷ s .until ∷ IS-OPEN ∷ s .now ∷ 0 ∷ 0 ∷ [])
+      → (K : Ledger) → done number (upToEscrows K ed h₂ w₃ e₁) ≡ openEscrow s (upToEscrows K ed h w e)
   unfolding openEscrow newEscrow putHead raise putWallet
-  opened w₃ h₂ e e₁ number y n z t r j =
+  opened w₃ h₂ e e₁ number y n z t K =
       let p = paid h w s (ready .paying) h₁ w₂ q in
-      rw (← q e r j, p .signer, ← p .others ESCROWS (omega arith), y, x, n, z, t)
+      rw (← q (upToEscrows K ed h w e), p .signer, ← p .others ESCROWS (omega arith), y, x, n, z, t)

@@ -7,50 +7,51 @@ use lib.Dec.{lit<}
 use borrow.Author.Tests.{eq-eqb, ne-eqb}
 use Rattle.rules.specs.Limits.{WALLET-LEN, RECEIPT-LEN, SYSTEM-FROZEN, RECEIPTS, FROZEN, TX-CAP, DAILY-CAP, PENDING, AUTO-OR-FREEZE}
 use Rattle.rules.specs.Table.{put, putRow}
-use Rattle.rules.specs.Ledger.{ledger, putHead, putWallet, newReceipt}
+use Rattle.rules.specs.Ledger.{Ledger, setHeader, setReceipts, putHead, putWallet, newReceipt}
 use Rattle.rules.specs.Record.{bit}
 use Rattle.rules.specs.Settle.{claim, freeze, caps, done}
 use Rattle.rules.specs.declared.Submission.{Submission}
+use Rattle.rules.proofs.UpTo.{upToWallets}
 use Rattle.moves.specs.Needs.{Counted, rowIn}
 use Rattle.moves.proofs.Wallets.{row-small}
 
 pub claimed :
-    (h w e r j h₁ r₁ : List ℕ) (s : Submission) (auto number : ℕ)
+    (K : Ledger) (h r h₁ r₁ : List ℕ) (s : Submission) (auto number : ℕ)
     → auto ≡ bit AUTO-OR-FREEZE (s .flags)
     → number ≡ getD h RECEIPTS 0 + 1
     → h₁ ≡ set h RECEIPTS (getD h RECEIPTS 0 + 1)
     → r₁ ≡ putRow r RECEIPT-LEN (getD h RECEIPTS 0)
     (s .signer ∷ s .target ∷ s .link ∷ s .until ∷ auto ∷ PENDING ∷ s .now ∷ 0 ∷ 0 ∷ 0 ∷ s .hash0 ∷ s .hash1 ∷ s .hash2 ∷ s .hash3 ∷ [])
-    → done number (ledger h₁ w e r₁ j) ≡ claim s (ledger h w e r j)
+    → done number (setReceipts r₁ (setHeader h₁ K)) ≡ claim s (setReceipts r (setHeader h K))
 unfolding claim newReceipt putHead
-claimed h w e r j h₁ r₁ s auto number a n x y = rw (n, x, y, a)
+claimed K h r h₁ r₁ s auto number a n x y = rw (n, x, y, a)
 
 pub system-frozen :
-    (h w e r j : List ℕ) (s : Submission) (frozen : ℕ)
+    (K : Ledger) (h w : List ℕ) (s : Submission) (frozen : ℕ)
     → frozen ≡ bit AUTO-OR-FREEZE (s .flags)
     → s .target ≡ 0
-    → done 0 (ledger (set h SYSTEM-FROZEN frozen) w e r j) ≡ freeze s (ledger h w e r j)
+    → done 0 (upToWallets K (set h SYSTEM-FROZEN frozen) w) ≡ freeze s (upToWallets K h w)
 unfolding freeze putHead
-system-frozen h w e r j s frozen f z = rw (eq-eqb _ _ z, f)
+system-frozen K h w s frozen f z = rw (eq-eqb _ _ z, f)
 
 pub wallet-frozen :
-    (h w e r j w₁ : List ℕ) (s : Submission) (frozen row : ℕ)
+    (K : Ledger) (h w w₁ : List ℕ) (s : Submission) (frozen row : ℕ)
     → frozen ≡ bit AUTO-OR-FREEZE (s .flags)
     → (s .target ≡ 0 → ⊥)
     → row ≡ rowIn h w (s .target)
     → w₁ ≡ put w WALLET-LEN row FROZEN frozen
-    → done 0 (ledger h w₁ e r j) ≡ freeze s (ledger h w e r j)
+    → done 0 (upToWallets K h w₁) ≡ freeze s (upToWallets K h w)
 unfolding freeze putWallet
-wallet-frozen h w e r j w₁ s frozen row f z x y = rw (ne-eqb _ _ z, y, x, f)
+wallet-frozen K h w w₁ s frozen row f z x y = rw (ne-eqb _ _ z, y, x, f)
 
 pub capped :
-    (h w e r j w₁ w₂ : List ℕ) (s : Submission) (row : ℕ)
+    (K : Ledger) (h w w₁ w₂ : List ℕ) (s : Submission) (row : ℕ)
     → row ≡ rowIn h w (s .target)
     → w₁ ≡ put w WALLET-LEN row TX-CAP (s .amount)
     → w₂ ≡ put w₁ WALLET-LEN row DAILY-CAP (s .link)
-    → done 0 (ledger h w₂ e r j) ≡ caps s (ledger h w e r j)
+    → done 0 (upToWallets K h w₂) ≡ caps s (upToWallets K h w)
 unfolding caps putWallet
-capped h w e r j w₁ w₂ s row x y z = rw (z, y, x)
+capped K h w w₁ w₂ s row x y z = rw (z, y, x)
 
 -- a word of the target's wallet can be set
 pub can-set : (h w : List ℕ) (id row k : ℕ) → Counted h w → row ≡ rowIn h w id → k < 2 ^ 16 → (row < 2 ^ 32) × (WALLET-LEN < 2 ^ 16) × (k < 2 ^ 16)

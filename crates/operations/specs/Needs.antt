@@ -1,10 +1,11 @@
 -- What an operation may rely on, over the lent lists alone.
 use mathlib.Core.Path.{_≡_}
 use mathlib.Core.List.{List}
-use Prim.Native.Nat.{ℕ, _+_, _<_, _≤_}
+use Prim.Native.Nat.{ℕ, _+_, _<_, _≤_, _^_}
 use lib.ListN.{length, getD}
 use Rattle.rules.specs.Limits.{HEADER-LEN, WALLET-LEN, MAX-ESCROWS, MAX-RECEIPTS, MAX-AMOUNT-MICRO, MAX-GRANTED-MICRO, WALLETS, ESCROWS, RECEIPTS, GRANTED, BALANCE, LOCKED}
 use Rattle.rules.specs.Table.{word, rowsIn}
+use Rattle.rules.specs.declared.Edition.{Edition}
 use Rattle.rules.specs.declared.Submission.{Submission}
 use Rattle.moves.specs.Needs.{Counted, rowIn}
 
@@ -25,11 +26,12 @@ pub record Paying (header wallets : List ℕ) (s : Submission) : Type 0 where
   pub signer : rowIn header wallets (s .signer) < getD header WALLETS 0
   pub enough : s .amount ≤ word wallets WALLET-LEN (rowIn header wallets (s .signer)) BALANCE
 
-pub record Opening (header wallets : List ℕ) (s : Submission) : Type 0 where
+pub record Opening (ed : Edition) (header wallets : List ℕ) (s : Submission) : Type 0 where
   pub paying : Paying header wallets s
   pub locked : word wallets WALLET-LEN (rowIn header wallets (s .signer)) LOCKED ≤ MAX-GRANTED-MICRO
+  pub len : ed .escrow < 2 ^ 16
   pub escrows : getD header ESCROWS 0 ≤ MAX-ESCROWS
 
 pub record Claiming (header : List ℕ) : Type 0 where
-  pub whole : length header ≡ HEADER-LEN
+  pub whole : HEADER-LEN ≤ length header
   pub receipts : getD header RECEIPTS 0 ≤ MAX-RECEIPTS

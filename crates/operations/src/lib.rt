@@ -1,5 +1,6 @@
 // What each operation but the sweep does to the tables, over the small moves. Clock and journal are left to `settling`. What an operation
 // may rely on stands in specs/Needs.antt; it is what no refusal and a sound ledger leave.
+use rules::Edition;
 use rules::EscrowNumber;
 use rules::ReceiptNumber;
 use rules::Submission;
@@ -7,7 +8,6 @@ use rules::limits::AUTO_OR_FREEZE;
 use rules::limits::BALANCE;
 use rules::limits::DAILY_CAP;
 use rules::limits::DISPUTED;
-use rules::limits::ESCROW_LEN;
 use rules::limits::ESCROWS;
 use rules::limits::FROZEN;
 use rules::limits::GRANTED;
@@ -23,10 +23,10 @@ use rules::limits::TX_CAP;
 use rules::limits::WALLET_LEN;
 use rules::limits::WALLETS;
 ghost use mathlib.Core.Path.{_≡_};
-ghost use mathlib.Core.List.{List};
-ghost use Prim.Native.Nat.{ℕ, _-_, _≤_};
+ghost use Prim.Native.Nat.{_-_, _≤_};
 ghost use Rattle.rules.specs.Limits.{MAX-RECEIPTS, BALANCE, AUTO-OR-FREEZE};
-ghost use Rattle.rules.specs.Ledger.{ledger};
+ghost use Rattle.rules.specs.Ledger.{Ledger};
+ghost use Rattle.rules.specs.Moments.{any, _of-edition_, _with-header_, _with-wallets_, _with-escrows_, _with-receipts_};
 ghost use Rattle.rules.specs.Record.{bit};
 ghost use Rattle.rules.specs.Settle.{done, lower, ensureWallet, grant, transfer, openEscrow, release, refund, claim, accept, dispute, freeze, caps};
 ghost use Rattle.moves.specs.Needs.{rowIn, Counted, Ends, Accepts};
@@ -35,7 +35,7 @@ ghost use Rattle.operations.specs.Needs.{Granting, Paying, Opening, Clai
 // Grant raises the target's balance and the granted total.
 pub fn grant(header: &mut [u64], wallets: &mut [u64], s: Submission) -> u64
     requires { ⌜ Granting (now header) (now wallets) s ⌝ }
-    ensures { λ x. ⌜ ((e r j : List ℕ) → done x (ledger (now (header .exit)) (now (wallets .exit)) e r j) ≡ grant s (ledger (now (header .entry)) (now (wallets .entry)) e r j)) ⌝ }
+    ensures { λ x. ⌜ ((K : Ledger) → let L = any K with-header header with-wallets wallets in done x (L .exit) ≡ grant s (L .entry)) ⌝ }
 {
     let granted = header[GRANTED];
     let row = rows::find_row(wallets, header[WALLETS] as usize, s.target);
@@ -54,7 +54,7 @@ struct Parties {
 // The first half of a payment: the target has a wallet, and the amount has left the signer's balance.
 fn pay(header: &mut [u64], wallets: &mut [u64], s: Submission) -> Parties
     requires { ⌜ Paying (now header) (now wallets) s ⌝ }
-    ensures { λ x. ⌜ (x .signer ≡ rowIn (now (header .entry)) (now (wallets .entry)) (s .signer)) × (x .target ≡ rowIn (now (header .entry)) (now (wallets .entry)) (s .target)) × ((e r j : List ℕ) → ledger (now (header .exit)) (now (wallets .exit)) e r j ≡ lower BALANCE (s .signer) (s .amount) (ensureWallet (s .target) (ledger (now (header .entry)) (now (wallets .entry)) e r j))) ⌝ }
+    ensures { λ x. ⌜ (x .signer ≡ rowIn (now (header .entry)) (now (wallets .entry)) (s .signer)) × (x .target ≡ rowIn (now (header .entry)) (now (wallets .entry)) (s .target)) × ((K : Ledger) → let L = any K with-header header with-wallets wallets in L .exit ≡ lower BALANCE (s .signer) (s .amount) (ensureWallet (s .target) (L .entry))) ⌝ }
 {
     let written = header[WALLETS] as usize;
     let signer = rows::find_row(wallets, written, s.signer);
@@ -67,7 +67,7 @@ fn pay(header: &mut [u64], wallets: &mut [u64], s: Submission) -> Parties
 // Transfer moves balance.
 pub fn transfer(header: &mut [u64], wallets: &mut [u64], s: Submission) -> u64
     requires { ⌜ Paying (now header) (now wallets) s ⌝ }
-    ensures { λ x. ⌜ ((e r j : List ℕ) → done x (ledger (now (header .exit)) (now (wallets .exit)) e r j) ≡ transfer s (ledger (now (header .entry)) (now (wallets .entry)) e r j)) ⌝ }
+    ensures { λ x. ⌜ ((K : Ledger) → let L = any K with-header header with-wallets wallets in done x (L .exit) ≡ transfer s (L .entry)) ⌝ }
 {
     let parties = pay(header, wallets, s);
     moves::raise(wallets, parties.target, BALANCE, s.amount);
@@ -76,42 +76,73 @@ pub fn transfer(header: &mut [u64], wallets: &mut [u64], s: Submission) -> u64
 
 // Open moves balance to locked; the word is the escrow's number.
 pub fn open_escrow(
+    edition: Edition,
     header: &mut [u64],
     wallets: &mut [u64],
     escrows: &mut [u64],
     s: Submission,
 ) -> u64
-    requires { ⌜ Opening (now header) (now wallets) s ⌝ }
-    ensures { λ x. ⌜ ((r j : List ℕ) → done x (ledger (now (header .exit)) (now (wallets .exit)) (now (escrows .exit)) r j) ≡ openEscrow s (ledger (now (header .entry)) (now (wallets .entry)) (now (escrows .entry)) r j)) ⌝ }
+    requires { ⌜ Opening edition (now header) (now wallets) s ⌝ }
+    ensures { λ x. ⌜ ((K : Ledger) → let L = any K of-edition edition with-header header with-wallets wallets with-escrows escrows in done x (L .exit) ≡ openEscrow s (L .entry)) ⌝ }
 {
     let parties = pay(header, wallets, s);
     moves::raise(wallets, parties.signer, LOCKED, s.amount);
     moves::append(
         header,
         escrows,
-        ESCROW_LEN,
+        edition.escrow,
         ESCROWS,
         &[s.signer, s.target, s.amount, s.until, IS_OPEN, s.now, 0, 0],
     )
 }
 
 // Release pays the recipient.
-pub fn release(header: &[u64], wallets: &mut [u64], escrows: &mut [u64], s: Submission) -> u64
-    requires { ⌜ (1 ≤ s .target) × Ends (now header) (now wallets) (now escrows) (s .target - 1) ⌝ }
-    ensures { λ x. ⌜ ((r j : List ℕ) → done x (ledger (now (header .entry)) (now (wallets .exit)) (now (escrows .exit)) r j) ≡ release s (ledger (now (header .entry)) (now (wallets .entry)) (now (escrows .entry)) r j)) ⌝ }
+pub fn release(
+    edition: Edition,
+    header: &[u64],
+    wallets: &mut [u64],
+    escrows: &mut [u64],
+    s: Submission,
+) -> u64
+    requires { ⌜ (1 ≤ s .target) × Ends edition (now header) (now wallets) (now escrows) (s .target - 1) ⌝ }
+    ensures { λ x. ⌜ ((K : Ledger) → let L = any K of-edition edition with-header header with-wallets wallets with-escrows escrows in done x (L .exit) ≡ release s (L .entry)) ⌝ }
 {
     let number = EscrowNumber(s.target);
-    moves::end_escrow(header, wallets, escrows, number, RELEASED, s.now, s.signer);
+    moves::end_escrow(
+        edition,
+        header,
+        wallets,
+        escrows,
+        number,
+        RELEASED,
+        s.now,
+        s.signer,
+    );
     0
 }
 
 // Refund returns it to the sender.
-pub fn refund(header: &[u64], wallets: &mut [u64], escrows: &mut [u64], s: Submission) -> u64
-    requires { ⌜ (1 ≤ s .target) × Ends (now header) (now wallets) (now escrows) (s .target - 1) ⌝ }
-    ensures { λ x. ⌜ ((r j : List ℕ) → done x (ledger (now (header .entry)) (now (wallets .exit)) (now (escrows .exit)) r j) ≡ refund s (ledger (now (header .entry)) (now (wallets .entry)) (now (escrows .entry)) r j)) ⌝ }
+pub fn refund(
+    edition: Edition,
+    header: &[u64],
+    wallets: &mut [u64],
+    escrows: &mut [u64],
+    s: Submission,
+) -> u64
+    requires { ⌜ (1 ≤ s .target) × Ends edition (now header) (now wallets) (now escrows) (s .target - 1) ⌝ }
+    ensures { λ x. ⌜ ((K : Ledger) → let L = any K of-edition edition with-header header with-wallets wallets with-escrows escrows in done x (L .exit) ≡ refund s (L .entry)) ⌝ }
 {
     let number = EscrowNumber(s.target);
-    moves::end_escrow(header, wallets, escrows, number, REFUNDED, s.now, s.signer);
+    moves::end_escrow(
+        edition,
+        header,
+        wallets,
+        escrows,
+        number,
+        REFUNDED,
+        s.now,
+        s.signer,
+    );
     0
 }
 
@@ -125,7 +156,7 @@ fn auto_or_freeze(flags: u8) -> u64
 // Claim's word is the receipt's number.
 pub fn claim(header: &mut [u64], receipts: &mut [u64], s: Submission) -> u64
     requires { ⌜ Claiming (now header) ⌝ }
-    ensures { λ x. ⌜ ((w e j : List ℕ) → done x (ledger (now (header .exit)) w e (now (receipts .exit)) j) ≡ claim s (ledger (now (header .entry)) w e (now (receipts .entry)) j)) ⌝ }
+    ensures { λ x. ⌜ ((K : Ledger) → let L = any K with-header header with-receipts receipts in done x (L .exit) ≡ claim s (L .entry)) ⌝ }
 {
     let auto = auto_or_freeze(s.flags);
     moves::append(
@@ -154,23 +185,33 @@ pub fn claim(header: &mut [u64], receipts: &mut [u64], s: Submission) -> u64
 
 // Accept closes the receipt, and releases the escrow that it links if it can.
 pub fn accept(
+    edition: Edition,
     header: &[u64],
     wallets: &mut [u64],
     escrows: &mut [u64],
     receipts: &mut [u64],
     s: Submission,
 ) -> u64
-    requires { ⌜ (1 ≤ s .target) × Accepts (now header) (now wallets) (now escrows) (now receipts) (s .now) (s .target - 1) ⌝ }
-    ensures { λ x. ⌜ ((j : List ℕ) → done x (ledger (now (header .entry)) (now (wallets .exit)) (now (escrows .exit)) (now (receipts .exit)) j) ≡ accept s (ledger (now (header .entry)) (now (wallets .entry)) (now (escrows .entry)) (now (receipts .entry)) j)) ⌝ }
+    requires { ⌜ (1 ≤ s .target) × Accepts edition (now header) (now wallets) (now escrows) (now receipts) (s .now) (s .target - 1) ⌝ }
+    ensures { λ x. ⌜ ((K : Ledger) → let L = any K of-edition edition with-header header with-wallets wallets with-escrows escrows with-receipts receipts in done x (L .exit) ≡ accept s (L .entry)) ⌝ }
 {
     let number = ReceiptNumber(s.target);
-    moves::accept_receipt(header, wallets, escrows, receipts, number, s.now, s.signer)
+    moves::accept_receipt(
+        edition,
+        header,
+        wallets,
+        escrows,
+        receipts,
+        number,
+        s.now,
+        s.signer,
+    )
 }
 
 // Dispute closes the receipt as disputed and moves no credits.
 pub fn dispute(receipts: &mut [u64], s: Submission) -> u64
     requires { ⌜ (1 ≤ s .target) × (s .target ≤ MAX-RECEIPTS) ⌝ }
-    ensures { λ x. ⌜ ((h w e j : List ℕ) → done x (ledger h w e (now (receipts .exit)) j) ≡ dispute s (ledger h w e (now (receipts .entry)) j)) ⌝ }
+    ensures { λ x. ⌜ ((K : Ledger) → let L = any K with-receipts receipts in done x (L .exit) ≡ dispute s (L .entry)) ⌝ }
 {
     let number = ReceiptNumber(s.target);
     moves::close_receipt(receipts, number, DISPUTED, s.now, s.signer);
@@ -180,7 +221,7 @@ pub fn dispute(receipts: &mut [u64], s: Submission) -> u64
 // Freeze sets the wallet's frozen word, or the system's for target 0, to bit 2.
 pub fn freeze(header: &mut [u64], wallets: &mut [u64], s: Submission) -> u64
     requires { ⌜ Counted (now header) (now wallets) ⌝ }
-    ensures { λ x. ⌜ ((e r j : List ℕ) → done x (ledger (now (header .exit)) (now (wallets .exit)) e r j) ≡ freeze s (ledger (now (header .entry)) (now (wallets .entry)) e r j)) ⌝ }
+    ensures { λ x. ⌜ ((K : Ledger) → let L = any K with-header header with-wallets wallets in done x (L .exit) ≡ freeze s (L .entry)) ⌝ }
 {
     let frozen = auto_or_freeze(s.flags);
     if s.target == 0 {
@@ -195,7 +236,7 @@ pub fn freeze(header: &mut [u64], wallets: &mut [u64], s: Submission) -> u64
 // Caps sets both caps.
 pub fn caps(header: &[u64], wallets: &mut [u64], s: Submission) -> u64
     requires { ⌜ Counted (now header) (now wallets) ⌝ }
-    ensures { λ x. ⌜ ((e r j : List ℕ) → done x (ledger (now (header .entry)) (now (wallets .exit)) e r j) ≡ caps s (ledger (now (header .entry)) (now (wallets .entry)) e r j)) ⌝ }
+    ensures { λ x. ⌜ ((K : Ledger) → let L = any K with-header header with-wallets wallets in done x (L .exit) ≡ caps s (L .entry)) ⌝ }
 {
     let row = rows::find_row(wallets, header[WALLETS] as usize, s.target);
     rows::set(wallets, WALLET_LEN, row, TX_CAP, s.amount);

@@ -7,9 +7,10 @@ use Prim.Native.Nat.{ℕ, _+_}
 use lib.ListN.{getD}
 use lib.Dec.{eqb, ltb}
 use Rattle.rules.specs.Limits.{WALLET-LEN, JOURNAL-LEN, MAX-AMOUNT-MICRO, MAX-GRANTED-MICRO, GRANT, GRANTED, WALLETS, ENTRIES}
-use Rattle.rules.specs.Ledger.{Ledger, ledger, head, rowOf, walletCount, entryCount, hasWallet, full}
+use Rattle.rules.specs.Ledger.{Ledger, ledgerOf, head, rowOf, walletCount, entryCount, hasWallet, full}
 use Rattle.rules.specs.Sound.{between}
 use Rattle.rules.specs.Refusals.{Refusal, row, first, operationRefusals}
+use Rattle.rules.specs.declared.Edition.{Edition}
 use Rattle.rules.specs.declared.Submission.{Submission}
 
 unfoldable pub ofGrant : Ledger → Submission → List Refusal
@@ -26,7 +27,7 @@ unfolding operationRefusals ofGrant
 grant-rows L s o = simp (o, or-false)
 
 pub grant-by :
-    (h w e r j : List ℕ) (s : Submission) (recipient r12 r15 r36 r37 r40 : ℕ) (over : Bool)
+    (ed : Edition) (h w e r j : List ℕ) (s : Submission) (recipient r12 r15 r36 r37 r40 : ℕ) (over : Bool)
     → s .op ≡ GRANT
     → recipient ≡ rowOf w (getD h WALLETS 0) (s .target)
     → over ≡ ltb MAX-GRANTED-MICRO (getD h GRANTED 0 + s .amount)
@@ -35,8 +36,8 @@ pub grant-by :
     → r36 ≡ cond over 36 r37
     → r15 ≡ cond (eqb (s .target) 0) 15 r36
     → r12 ≡ cond (not (between 1 MAX-AMOUNT-MICRO (s .amount))) 12 r15
-    → r12 ≡ first (operationRefusals (ledger h w e r j) s)
+    → r12 ≡ first (operationRefusals (ledgerOf ed h w e r j) s)
 unfolding ofGrant
-grant-by h w e r j s recipient r12 r15 r36 r37 r40 over o k x c40 c37 c36 c15 c12 =
-    let picks : r12 ≡ first (ofGrant (ledger h w e r j) s) = cc in
+grant-by ed h w e r j s recipient r12 r15 r36 r37 r40 over o k x c40 c37 c36 c15 c12 =
+    let picks : r12 ≡ first (ofGrant (ledgerOf ed h w e r j) s) = cc in
     picks ∙ sym (grant-rows _ s o)

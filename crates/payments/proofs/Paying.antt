@@ -10,9 +10,10 @@ use lib.Dec.{eqb, ltb, leb}
 use Rattle.rules.specs.Limits.{WALLET-LEN, JOURNAL-LEN, MAX-AMOUNT-MICRO, MAX-HOLD-MS, TRANSFER, OPEN}
 use Rattle.rules.specs.Limits.{WALLETS, ESCROWS, ENTRIES, BALANCE, FROZEN, TX-CAP, DAILY-CAP}
 use Rattle.rules.specs.Table.{word}
-use Rattle.rules.specs.Ledger.{Ledger, ledger, first-edition, rowOf, walletCount, escrowCount, entryCount, hasWallet, walletOf, full}
+use Rattle.rules.specs.Ledger.{Ledger, ledgerOf, rowOf, walletCount, escrowCount, entryCount, hasWallet, walletOf, full}
 use Rattle.rules.specs.Sound.{between}
 use Rattle.rules.specs.Refusals.{Refusal, row, first, countedOf, counted, sender, operationRefusals}
+use Rattle.rules.specs.declared.Edition.{Edition}
 use Rattle.rules.specs.declared.Submission.{Submission}
 
 unfoldable pub ofPaying : Ledger → Submission → List Refusal
@@ -27,7 +28,7 @@ ofPaying L s =
     ∷ row 20 (eqb (s .op) OPEN && leb (s .until) (s .now))
     ∷ row 21 (eqb (s .op) OPEN && ltb (s .now + MAX-HOLD-MS) (s .until))
     ∷ row 37 (not (hasWallet L (s .target)) && full WALLET-LEN (L .wallets) (walletCount L))
-    ∷ row 38 (eqb (s .op) OPEN && full (L .edition .escrowLen) (L .escrows) (escrowCount L))
+    ∷ row 38 (eqb (s .op) OPEN && full (L .edition .escrow) (L .escrows) (escrowCount L))
     ∷ row 40 (full JOURNAL-LEN (L .journal) (entryCount L))
     ∷ []
 
@@ -40,7 +41,7 @@ unfolding operationRefusals ofPaying
 open-rows L s o = simp (o, or-false)
 
 pub paying-by :
-    (h w e r j : List ℕ) (s : Submission)
+    (ed : Edition) (h w e r j : List ℕ) (s : Submission)
     (recipient from frozen balance tx daily spent r12 r13 r14 r15 r17 r18 r19 r20 r21 r37 r38 r40 : ℕ) (over : Bool)
     → (s .op ≡ TRANSFER) ⊎ (s .op ≡ OPEN)
     → recipient ≡ rowOf w (getD h WALLETS 0) (s .target)
@@ -52,7 +53,7 @@ pub paying-by :
     → spent ≡ countedOf j (getD h ENTRIES 0) (s .signer) (s .now)
     → over ≡ ltb daily (s .amount + spent)
     → r40 ≡ cond (full JOURNAL-LEN j (getD h ENTRIES 0)) 40 0
-    → r38 ≡ cond (eqb (s .op) OPEN && full (first-edition .escrowLen) e (getD h ESCROWS 0)) 38 r40
+    → r38 ≡ cond (eqb (s .op) OPEN && full (ed .escrow) e (getD h ESCROWS 0)) 38 r40
     → r37 ≡ cond (not (ltb recipient (getD h WALLETS 0)) && full WALLET-LEN w (getD h WALLETS 0)) 37 r38
     → r21 ≡ cond (eqb (s .op) OPEN && ltb (s .now + MAX-HOLD-MS) (s .until)) 21 r37
     → r20 ≡ cond (eqb (s .op) OPEN && leb (s .until) (s .now)) 20 r21
@@ -63,9 +64,9 @@ pub paying-by :
     → r14 ≡ cond (ltb from (getD h WALLETS 0) && eqb frozen 1) 14 r15
     → r13 ≡ cond (not (ltb from (getD h WALLETS 0))) 13 r14
     → r12 ≡ cond (not (between 1 MAX-AMOUNT-MICRO (s .amount))) 12 r13
-    → r12 ≡ first (operationRefusals (ledger h w e r j) s)
+    → r12 ≡ first (operationRefusals (ledgerOf ed h w e r j) s)
 unfolding ofPaying counted countedOf
-paying-by h w e r j s recipient from frozen balance tx daily spent r12 r13 r14 r15 r17 r18 r19 r20 r21 r37 r38 r40 over o a b f g i k l m
+paying-by ed h w e r j s recipient from frozen balance tx daily spent r12 r13 r14 r15 r17 r18 r19 r20 r21 r37 r38 r40 over o a b f g i k l m
     c40 c38 c37 c21 c20 c19 c18 c17 c15 c14 c13 c12 =
-    let picks : r12 ≡ first (ofPaying (ledger h w e r j) s) = cc in
+    let picks : r12 ≡ first (ofPaying (ledgerOf ed h w e r j) s) = cc in
     picks ∙ sym (⊎-elim (transfer-rows _ s) (open-rows _ s) o)

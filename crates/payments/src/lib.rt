@@ -1,18 +1,18 @@
 // Checks 12 to 40 of the operations that bring credits to a wallet: grant, transfer and open.
 ghost use mathlib.Core.Path.{_≡_};
-ghost use mathlib.Core.List.{List};
 ghost use mathlib.Core.Logic.{_⊎_};
-ghost use Prim.Native.Nat.{ℕ, _*_, _≤_, _<_};
+ghost use Prim.Native.Nat.{_*_, _≤_, _<_};
 ghost use lib.ListN.{getD, length};
 ghost use Rattle.rules.specs.Limits.{WALLET-LEN, MAX-WALLETS, LAST-TIME-MS, WALLETS, ENTRIES, GRANT, TRANSFER, OPEN};
-ghost use Rattle.rules.specs.Ledger.{ledger};
+ghost use Rattle.rules.specs.Ledger.{Ledger, Sized};
+ghost use Rattle.rules.specs.Moments.{any, _of-edition_, _with-header_, _with-wallets_, _with-escrows_, _with-journal_};
 ghost use Rattle.rules.specs.Refusals.{first, operationRefusals};
 ghost use Rattle.payments.specs.Entries.{Entries};
+use rules::Edition;
 use rules::Submission;
 use rules::limits::BALANCE;
 use rules::limits::DAILY_CAP;
 use rules::limits::ENTRIES;
-use rules::limits::ESCROW_LEN;
 use rules::limits::ESCROWS;
 use rules::limits::FROZEN;
 use rules::limits::GRANTED;
@@ -30,7 +30,7 @@ mod sums;
 // A grant: checks 12, 15, 36, 37, 40.
 pub fn grant_refusal(header: &[u64], wallets: &[u64], journal: &[u64], s: Submission) -> u64
     requires { ⌜ (ENTRIES < length (now header)) × (getD (now header) WALLETS 0 * WALLET-LEN ≤ length (now wallets)) × (s .op ≡ GRANT) ⌝ }
-    ensures { λ x. ⌜ ((e r : List ℕ) → x ≡ first (operationRefusals (ledger (now (header .entry)) (now (wallets .entry)) e r (now (journal .entry))) s)) ⌝ }
+    ensures { λ x. ⌜ ((K : Ledger) → let L = any K with-header header with-wallets wallets with-journal journal in x ≡ first (operationRefusals (L .entry) s)) ⌝ }
 {
     let granted = header[GRANTED];
     let count = header[WALLETS] as usize;
@@ -50,14 +50,15 @@ pub fn grant_refusal(header: &[u64], wallets: &[u64], journal: &[u64], s: Submis
 
 // A transfer or an open: checks 12 to 15, 17 to 21, 37, 38, 40.
 pub fn paying_refusal(
+    edition: Edition,
     header: &[u64],
     wallets: &[u64],
     escrows: &[u64],
     journal: &[u64],
     s: Submission,
 ) -> u64
-    requires { ⌜ (ENTRIES < length (now header)) × (getD (now header) WALLETS 0 ≤ MAX-WALLETS) × (getD (now header) WALLETS 0 * WALLET-LEN ≤ length (now wallets)) × Entries (now journal) (getD (now header) ENTRIES 0) × (s .now ≤ LAST-TIME-MS) × ((s .op ≡ TRANSFER) ⊎ (s .op ≡ OPEN)) ⌝ }
-    ensures { λ x. ⌜ ((r : List ℕ) → x ≡ first (operationRefusals (ledger (now (header .entry)) (now (wallets .entry)) (now (escrows .entry)) r (now (journal .entry))) s)) ⌝ }
+    requires { ⌜ (ENTRIES < length (now header)) × (getD (now header) WALLETS 0 ≤ MAX-WALLETS) × (getD (now header) WALLETS 0 * WALLET-LEN ≤ length (now wallets)) × Entries (now journal) (getD (now header) ENTRIES 0) × (s .now ≤ LAST-TIME-MS) × ((s .op ≡ TRANSFER) ⊎ (s .op ≡ OPEN)) × Sized edition ⌝ }
+    ensures { λ x. ⌜ ((K : Ledger) → let L = any K of-edition edition with-header header with-wallets wallets with-escrows escrows with-journal journal in x ≡ first (operationRefusals (L .entry) s)) ⌝ }
 {
     let count = header[WALLETS] as usize;
     let held = header[ESCROWS] as usize;
@@ -81,7 +82,7 @@ pub fn paying_refusal(
     let deadline_past = opens & (s.until <= s.now);
     let deadline_exceeds_max = opens & (s.now + MAX_HOLD_MS < s.until);
     let wallet_table_full = !(recipient < count) & (wallets.len() / WALLET_LEN <= count);
-    let escrow_table_full = opens & (escrows.len() / ESCROW_LEN <= held);
+    let escrow_table_full = opens & (escrows.len() / edition.escrow <= held);
     let journal_table_full = journal.len() / JOURNAL_LEN <= entries;
     let r40 = rows::choose(journal_table_full, 40, 0);
     let r38 = rows::choose(escrow_table_full, 38, r40);

@@ -11,9 +11,10 @@ use borrow.Author.Tests.{leb-true, eqb-true}
 use Rattle.rules.specs.Limits.{WALLET-LEN, JOURNAL-LEN, MAX-WALLETS, MAX-ESCROWS, MAX-RECEIPTS, MAX-AMOUNT-MICRO, LAST-TIME-MS}
 use Rattle.rules.specs.Limits.{WALLETS, ESCROWS, RECEIPTS, ENTRIES, TRANSFER, OPEN, CAPS}
 use Rattle.rules.specs.Table.{rowsIn, tableRight}
-use Rattle.rules.specs.Ledger.{Ledger, ledger, lengthTests, lengthsRight}
+use Rattle.rules.specs.Ledger.{Ledger, ledgerOf, lengthTests, lengthsRight}
 use Rattle.rules.specs.Sound.{headerTests, entryTests, soundTests, sound, between}
 use Rattle.rules.specs.Record.{formTests, wellFormed}
+use Rattle.rules.specs.declared.Edition.{Edition}
 use Rattle.rules.specs.declared.Submission.{Submission}
 use Rattle.rules.proofs.Bools.{all-at, and-snd}
 use Rattle.rules.proofs.Rows.{rows-fit}
@@ -21,9 +22,9 @@ use Rattle.rules.proofs.SoundParts.{journal-of}
 use Rattle.payments.specs.Entries.{Entries}
 use Rattle.refusals.specs.Ready.{Ready}
 
-module _ {h w e r j : List ℕ} {s : Submission} (given : Ready (ledger h w e r j) s) where
+module _ {ed : Edition} {h w e r j : List ℕ} {s : Submission} (given : Ready (ledgerOf ed h w e r j) s) where
   abbrev L : Ledger
-  L = ledger h w e r j
+  L = ledgerOf ed h w e r j
 
   length-test : (k : ℕ) → getD (lengthTests L) k true ≡ true
   unfolding lengthsRight
@@ -44,7 +45,7 @@ module _ {h w e r j : List ℕ} {s : Submission} (given : Ready (ledger h w e r 
       (leb-true (rowsIn len t) most (all-at (leb len (length t) ∷ eqb (length t % len) 0 ∷ leb (rowsIn len t) most ∷ []) q 2))
 
   pub header-there : ENTRIES < length h
-  header-there = omega (arith, eqb-true (length h) 8 (length-test 0))
+  header-there = omega (arith, eqb-true (length h) (ed .header) (length-test 0), given .sized .header)
 
   pub wallets-few : getD h WALLETS 0 ≤ MAX-WALLETS
   wallets-few = count-low _ _ _ w (header-test 3) (length-test 1)

@@ -2,13 +2,14 @@
 use mathlib.Core.Path.{_≡_}
 use mathlib.Core.List.{List, _++_}
 use mathlib.Core.Bool.{true}
-use Rattle.rules.specs.Ledger.{Ledger, lengthsRight}
+use Rattle.rules.specs.Ledger.{Ledger, Sized, lengthsRight}
 use Rattle.rules.specs.Sound.{sound}
 use Rattle.rules.specs.Record.{wellFormed}
 use Rattle.rules.specs.Refusals.{Refusal, envelopeRefusals, operationRefusals}
 use Rattle.rules.specs.declared.Submission.{Submission}
 
 pub record Ready (L : Ledger) (s : Submission) : Type 0 where
+  pub sized : Sized (L .edition)
   pub lengths : lengthsRight L ≡ true
   pub right : sound L ≡ true
   pub formed : wellFormed s ≡ true

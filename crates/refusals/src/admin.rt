@@ -1,10 +1,10 @@
 // Checks 12, 16 and 40 of the operations that move no credits by themselves: sweep, freeze and caps.
 ghost use mathlib.Core.Path.{_≡_};
-ghost use mathlib.Core.List.{List};
-ghost use Prim.Native.Nat.{ℕ, _*_, _≤_, _<_};
+ghost use Prim.Native.Nat.{_*_, _≤_, _<_};
 ghost use lib.ListN.{getD, length};
 ghost use Rattle.rules.specs.Limits.{WALLET-LEN, WALLETS, ENTRIES, SWEEP, FREEZE, CAPS};
-ghost use Rattle.rules.specs.Ledger.{Ledger, ledger};
+ghost use Rattle.rules.specs.Ledger.{Ledger};
+ghost use Rattle.rules.specs.Moments.{any, _with-header_, _with-wallets_, _with-journal_};
 ghost use Rattle.rules.specs.Refusals.{first, operationRefusals};
 use rules::Submission;
 use rules::limits::ENTRIES;
@@ -25,7 +25,7 @@ pub fn sweep_refusal(s: Submission) -> u64
 // A freeze: checks 16, 40. Target 0 is the system.
 pub fn freeze_refusal(header: &[u64], wallets: &[u64], journal: &[u64], s: Submission) -> u64
     requires { ⌜ (ENTRIES < length (now header)) × (getD (now header) WALLETS 0 * WALLET-LEN ≤ length (now wallets)) × (s .op ≡ FREEZE) ⌝ }
-    ensures { λ x. ⌜ ((e r : List ℕ) → x ≡ first (operationRefusals (ledger (now (header .entry)) (now (wallets .entry)) e r (now (journal .entry))) s)) ⌝ }
+    ensures { λ x. ⌜ ((K : Ledger) → let L = any K with-header header with-wallets wallets with-journal journal in x ≡ first (operationRefusals (L .entry) s)) ⌝ }
 {
     let count = header[WALLETS] as usize;
     let entries = header[ENTRIES] as usize;
@@ -39,7 +39,7 @@ pub fn freeze_refusal(header: &[u64], wallets: &[u64], journal: &[u64], s: Submi
 // New caps: checks 12, 16, 40.
 pub fn caps_refusal(header: &[u64], wallets: &[u64], journal: &[u64], s: Submission) -> u64
     requires { ⌜ (ENTRIES < length (now header)) × (getD (now header) WALLETS 0 * WALLET-LEN ≤ length (now wallets)) × (s .op ≡ CAPS) ⌝ }
-    ensures { λ x. ⌜ ((e r : List ℕ) → x ≡ first (operationRefusals (ledger (now (header .entry)) (now (wallets .entry)) e r (now (journal .entry))) s)) ⌝ }
+    ensures { λ x. ⌜ ((K : Ledger) → let L = any K with-header header with-wallets wallets with-journal journal in x ≡ first (operationRefusals (L .entry) s)) ⌝ }
 {
     let count = header[WALLETS] as usize;
     let entries = header[ENTRIES] as usize;

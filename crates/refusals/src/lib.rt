@@ -1,9 +1,10 @@
 // Checks 4 to 40 on a ledger that is sound and a record that is well formed: the number of the first that holds, or 0. A family of
 // operations is one strict group: each of its conditions is worked out, and then the first that holds is picked, from the last to the first.
 ghost use mathlib.Core.Path.{_≡_};
-ghost use Rattle.rules.specs.Ledger.{ledger};
+ghost use Rattle.rules.specs.Moments.{tables, lent};
 ghost use Rattle.rules.specs.Refusals.{first, operationRefusals};
 ghost use Rattle.refusals.specs.Ready.{Ready, laterRefusals};
+use rules::Edition;
 use rules::Submission;
 use rules::limits::ACCEPT;
 use rules::limits::CAPS;
@@ -21,6 +22,7 @@ mod admin;
 
 // Checks 12 to 40, by the operation.
 fn operation_refusal(
+    edition: Edition,
     header: &[u64],
     wallets: &[u64],
     escrows: &[u64],
@@ -28,15 +30,15 @@ fn operation_refusal(
     journal: &[u64],
     s: Submission,
 ) -> u64
-    requires { ⌜ Ready (ledger (now header) (now wallets) (now escrows) (now receipts) (now journal)) s ⌝ }
-    ensures { λ x. ⌜ x ≡ first (operationRefusals (ledger (now (header .entry)) (now (wallets .entry)) (now (escrows .entry)) (now (receipts .entry)) (now (journal .entry))) s) ⌝ }
+    requires { ⌜ Ready (tables edition header wallets escrows receipts journal) s ⌝ }
+    ensures { λ x. ⌜ x ≡ first (operationRefusals (lent edition header wallets escrows receipts journal .entry) s) ⌝ }
 {
     let op = s.op;
     match op {
         GRANT => payments::grant_refusal(header, wallets, journal, s),
-        TRANSFER | OPEN => payments::paying_refusal(header, wallets, escrows, journal, s),
-        RELEASE | REFUND => holds::closing_refusal(header, escrows, journal, s),
-        CLAIM => holds::claim_refusal(header, wallets, escrows, receipts, journal, s),
+        TRANSFER | OPEN => payments::paying_refusal(edition, header, wallets, escrows, journal, s),
+        RELEASE | REFUND => holds::closing_refusal(edition, header, escrows, journal, s),
+        CLAIM => holds::claim_refusal(edition, header, wallets, escrows, receipts, journal, s),
         ACCEPT | DISPUTE => holds::reply_refusal(header, receipts, journal, s),
         SWEEP => admin::sweep_refusal(s),
         FREEZE => admin::freeze_refusal(header, wallets, journal, s),
@@ -47,6 +49,7 @@ fn operation_refusal(
 
 // Checks 4 to 40: those of the envelope, and if none of them holds, those of the operation.
 pub fn refusal(
+    edition: Edition,
     header: &[u64],
     wallets: &[u64],
     escrows: &[u64],
@@ -54,12 +57,12 @@ pub fn refusal(
     journal: &[u64],
     s: Submission,
 ) -> u64
-    requires { ⌜ Ready (ledger (now header) (now wallets) (now escrows) (now receipts) (now journal)) s ⌝ }
-    ensures { λ x. ⌜ x ≡ first (laterRefusals (ledger (now (header .entry)) (now (wallets .entry)) (now (escrows .entry)) (now (receipts .entry)) (now (journal .entry))) s) ⌝ }
+    requires { ⌜ Ready (tables edition header wallets escrows receipts journal) s ⌝ }
+    ensures { λ x. ⌜ x ≡ first (laterRefusals (lent edition header wallets escrows receipts journal .entry) s) ⌝ }
 {
     let number = envelope::envelope_refusal(header, journal, s);
     if number != 0 {
         return number;
     }
-    operation_refusal(header, wallets, escrows, receipts, journal, s)
+    operation_refusal(edition, header, wallets, escrows, receipts, journal, s)
 }

@@ -59,7 +59,7 @@ RecsOf t n B = Recs t n (B .claims) (B .note) (B .pending)
 
 pub record Fits (L : Ledger) (B : Book) : Type 0 where
   pub acc : AccOf (L .wallets) (walletCount L) (head L GRANTED) B
-  pub escs : EscsOf (L .escrows) (L .edition .escrowLen) (escrowCount L) B
+  pub escs : EscsOf (L .escrows) (L .edition .escrow) (escrowCount L) B
   pub recs : RecsOf (L .receipts) (receiptCount L) B
 
 -- at i it is x, elsewhere as it was
@@ -149,9 +149,9 @@ pub fits-end : (L : Ledger) (B : Book) → Good L → Fits L B → (i : ℕ) →
     → (st now signer : ℕ) → eqb st IS-OPEN ≡ false → Fits (endEscrow st now signer i L) (ends (eqb st RELEASED) i B)
 unfolding endEscrow raise lower putWallet putEscrow ends
 fits-end L B g f i i< o st now signer c = record {
-  acc = ended-acc (L .wallets) (walletCount L) (head L GRANTED) (L .escrows) (L .edition .escrowLen) (escrowCount L) (L .receipts) (receiptCount L)
+  acc = ended-acc (L .wallets) (walletCount L) (head L GRANTED) (L .escrows) (L .edition .escrow) (escrowCount L) (L .receipts) (receiptCount L)
       g B (f .acc) (f .escs) i i< o (eqb st RELEASED);
-  escs = ended-escs (L .wallets) (walletCount L) (head L GRANTED) (L .escrows) (L .edition .escrowLen) (escrowCount L) (L .receipts) (receiptCount L)
+  escs = ended-escs (L .wallets) (walletCount L) (head L GRANTED) (L .escrows) (L .edition .escrow) (escrowCount L) (L .receipts) (receiptCount L)
       g B (f .acc) (f .escs) i i< o (eqb st RELEASED) st now signer c;
   recs = f .recs;
 }

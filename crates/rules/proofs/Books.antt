@@ -126,7 +126,7 @@ unfolding fresh
 fits-fresh L h =
     cond-case (λ (o : Outcome). Fits (o .left) blank) (lengthsRight L) (outcome 0 0 (setHeader (freshHeader (L .edition)) L)) (outcome 1 0 L)
     (λ e.
-    let m : ℕ = L .edition .headerLen - 1 in
+    let m : ℕ = L .edition .header - 1 in
     fits-make (setHeader (freshHeader (L .edition)) L) blank 0 0 0 0 (zeros m (WALLETS - 1)) (zeros m (GRANTED - 1)) (zeros m (ESCROWS - 1))
     (zeros m (RECEIPTS - 1))
     (record { distinct = λ i l. absurd (none i l); balances = λ v. omega (arith, bal-missing (L .wallets) 0 v BALANCE (omega arith)); helds = λ v. omega (arith, bal-missing (L .wallets) 0 v LOCKED (omega arith)); totals = sum-none _; grants = refl })

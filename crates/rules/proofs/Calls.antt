@@ -71,9 +71,9 @@ settled L r e = record {
 pub for-op : (s : Submission) (ops : List ℕ) (x : Bool) → oneOf ops (s .op) ≡ true → on s ops x ≡ false → x ≡ false
 for-op s ops x t h = subst (λ (b : Bool). b && x ≡ false) t h
 
-pub header-length : (L : Ledger) → lengthsRight L ≡ true → length (L .header) ≡ L .edition .headerLen
+pub header-length : (L : Ledger) → lengthsRight L ≡ true → length (L .header) ≡ L .edition .header
 unfolding lengthsRight
-header-length L h = eqb-true (length (L .header)) (L .edition .headerLen) (all-at (lengthTests L) h 0)
+header-length L h = eqb-true (length (L .header)) (L .edition .header) (all-at (lengthTests L) h 0)
 
 -- ---- what was read
 

@@ -27,10 +27,10 @@ use Rattle.rules.proofs.Agree.{AccOf, EscsOf, RecsOf, Fits, at-cases}
 
 -- from the numbers that the header has
 pub fits-make : (L : Ledger) (B : Book) (n g m k : ℕ) → walletCount L ≡ n → head L GRANTED ≡ g → escrowCount L ≡ m → receiptCount L ≡ k
-    → AccOf (L .wallets) n g B → EscsOf (L .escrows) (L .edition .escrowLen) m B → RecsOf (L .receipts) k B → Fits L B
+    → AccOf (L .wallets) n g B → EscsOf (L .escrows) (L .edition .escrow) m B → RecsOf (L .receipts) k B → Fits L B
 fits-make L B n g m k en eg em ek a e r = record {
   acc = subst₂ (λ (x y : ℕ). AccOf (L .wallets) x y B) (sym en) (sym eg) a;
-  escs = subst (λ (x : ℕ). EscsOf (L .escrows) (L .edition .escrowLen) x B) (sym em) e;
+  escs = subst (λ (x : ℕ). EscsOf (L .escrows) (L .edition .escrow) x B) (sym em) e;
   recs = subst (λ (x : ℕ). RecsOf (L .receipts) x B) (sym ek) r;
 }
 
@@ -65,7 +65,7 @@ fits-ensured L K id B en f =
         totals = en .good .totals ∙ granted;
         grants = granted;
       };
-      escs = subst₃ (λ (t : List ℕ) (e : Edition) (n : ℕ). EscsOf t (e .escrowLen) n B) (sym (en .escrows)) (sym (en .edition)) (sym (en .others ESCROWS (omega arith))) (f .escs);
+      escs = subst₃ (λ (t : List ℕ) (e : Edition) (n : ℕ). EscsOf t (e .escrow) n B) (sym (en .escrows)) (sym (en .edition)) (sym (en .others ESCROWS (omega arith))) (f .escs);
       recs = subst₂ (λ (t : List ℕ) (n : ℕ). RecsOf t n B) (sym (en .receipts)) (sym (en .others RECEIPTS (omega arith))) (f .recs);
     }
 

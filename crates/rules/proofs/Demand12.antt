@@ -87,9 +87,9 @@ part-or-none headerLen c len most header t k =
 pub part-answers : Part-answers
 unfolding walletNumber
 part-answers e header t k = (
-  part-or-none (e .headerLen) ESCROWS (e .escrowLen) MAX-ESCROWS header t k,
-  part-or-none (e .headerLen) RECEIPTS RECEIPT-LEN MAX-RECEIPTS header t k,
-  cond-case (λ (n : ℕ). n ≤ rowsIn WALLET-LEN t) (countRight (e .headerLen) WALLETS WALLET-LEN MAX-WALLETS header t && (not (eqb k 0) && ltb r n))
+  part-or-none (e .header) ESCROWS (e .escrow) MAX-ESCROWS header t k,
+  part-or-none (e .header) RECEIPTS RECEIPT-LEN MAX-RECEIPTS header t k,
+  cond-case (λ (n : ℕ). n ≤ rowsIn WALLET-LEN t) (countRight (e .header) WALLETS WALLET-LEN MAX-WALLETS header t && (not (eqb k 0) && ltb r n))
       (r + 1) 0 (λ h. found h) (λ h. omega arith),
 )
   where
@@ -99,11 +99,11 @@ part-answers e header t k = (
     r : ℕ
     r = rowOf t n k
 
-    found : countRight (e .headerLen) WALLETS WALLET-LEN MAX-WALLETS header t && (not (eqb k 0) && ltb r n) ≡ true → r + 1 ≤ rowsIn WALLET-LEN t
+    found : countRight (e .header) WALLETS WALLET-LEN MAX-WALLETS header t && (not (eqb k 0) && ltb r n) ≡ true → r + 1 ≤ rowsIn WALLET-LEN t
     found h =
-        let fits : n ≤ rowsIn WALLET-LEN t = count-within (e .headerLen) WALLETS WALLET-LEN MAX-WALLETS header t (not (eqb k 0) && ltb r n) h in
+        let fits : n ≤ rowsIn WALLET-LEN t = count-within (e .header) WALLETS WALLET-LEN MAX-WALLETS header t (not (eqb k 0) && ltb r n) h in
         let low : r < n =
-        ltb-true r n (and-snd (not (eqb k 0)) (ltb r n) (and-snd (countRight (e .headerLen) WALLETS WALLET-LEN MAX-WALLETS header t) _ h)) in
+        ltb-true r n (and-snd (not (eqb k 0)) (ltb r n) (and-snd (countRight (e .header) WALLETS WALLET-LEN MAX-WALLETS header t) _ h)) in
         omega arith
 
 -- ---- demand 2

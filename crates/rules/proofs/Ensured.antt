@@ -109,10 +109,10 @@ ensured L id g wide some-id place =
     let others : (k : ℕ) → k ≢ WALLETS → getD (set h WALLETS (n + 1)) k 0 ≡ getD h k 0 = λ k ne. getD-set-other h WALLETS k (n + 1) 0 ne in
     record {
       good =
-          subst₃ (λ (a b c : ℕ). GoodTables ws′ a (getD (set h WALLETS (n + 1)) GRANTED 0) (L .escrows) (L .edition .escrowLen) b (L .receipts) c)
+          subst₃ (λ (a b c : ℕ). GoodTables ws′ a (getD (set h WALLETS (n + 1)) GRANTED 0) (L .escrows) (L .edition .escrow) b (L .receipts) c)
           (sym count) (sym (others ESCROWS (omega arith))) (sym (others RECEIPTS (omega arith)))
-          (subst (λ (k : ℕ). GoodTables ws′ (n + 1) k (L .escrows) (L .edition .escrowLen) (escrowCount L) (L .receipts) (receiptCount L)) (sym (others GRANTED (omega arith)))
-          (new-tables ws n (head L GRANTED) (L .escrows) (L .edition .escrowLen) (escrowCount L) (L .receipts) (receiptCount L) g id some-id p m));
+          (subst (λ (k : ℕ). GoodTables ws′ (n + 1) k (L .escrows) (L .edition .escrow) (escrowCount L) (L .receipts) (receiptCount L)) (sym (others GRANTED (omega arith)))
+          (new-tables ws n (head L GRANTED) (L .escrows) (L .edition .escrow) (escrowCount L) (L .receipts) (receiptCount L) g id some-id p m));
       found = subst (λ (k : ℕ). rowOf ws′ k id < k) (sym count) (rw (new-row-id ws n id (blankWallet id) refl refl refl refl fits m) (omega arith));
       keeps = λ v l. subst (λ (k : ℕ). rowOf ws′ k v < k) (sym count) (rw (new-row-old ws n id (blankWallet id) refl refl refl refl fits m v l) (omega arith));
       same = λ v k k< z. subst (λ (c : ℕ). bal ws′ c v k ≡ bal ws n v k) (sym count) (new-bal ws n id (blankWallet id) refl refl refl refl fits m v k k< z);

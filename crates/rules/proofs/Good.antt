@@ -72,11 +72,11 @@ pub record GoodTables (ws : List ℕ) (nw g : ℕ) (es : List ℕ) (len ne : ℕ
 
 abbrev pub Good : Ledger → Type 0
 Good L =
-    GoodTables (L .wallets) (walletCount L) (head L GRANTED) (L .escrows) (L .edition .escrowLen) (escrowCount L) (L .receipts) (receiptCount L)
+    GoodTables (L .wallets) (walletCount L) (head L GRANTED) (L .escrows) (L .edition .escrow) (escrowCount L) (L .receipts) (receiptCount L)
 
 -- ---- what soundness says
 
-module _ (L : Ledger) (wide : 8 ≤ L .edition .escrowLen) (sound-L : sound L ≡ true) where
+module _ (L : Ledger) (wide : 8 ≤ L .edition .escrow) (sound-L : sound L ≡ true) where
   header-test : all (headerTests L) ≡ true
   unfolding sound
   header-test = all-at (soundTests L) sound-L 0
@@ -97,12 +97,12 @@ module _ (L : Ledger) (wide : 8 ≤ L .edition .escrowLen) (sound-L : sound L �
   from-says i l = ltb-true _ _ (all-at (escrowTests L i) (escrow-test i l) 0)
 
   -- locked is the sum of the open escrows, of an id without a wallet too: no escrow names it
-  locked-says : (v : ℕ) → bal (L .wallets) (walletCount L) v LOCKED ≡ sum (escrowCount L) (held-at (L .escrows) (L .edition .escrowLen) v)
+  locked-says : (v : ℕ) → bal (L .wallets) (walletCount L) v LOCKED ≡ sum (escrowCount L) (held-at (L .escrows) (L .edition .escrow) v)
   unfolding sound heldIn
   locked-says v = go (decLt (walletRow L v) (walletCount L))
     where
       go : Dec (walletRow L v < walletCount L)
-          → bal (L .wallets) (walletCount L) v LOCKED ≡ sum (escrowCount L) (held-at (L .escrows) (L .edition .escrowLen) v)
+          → bal (L .wallets) (walletCount L) v LOCKED ≡ sum (escrowCount L) (held-at (L .escrows) (L .edition .escrow) v)
       go (yes l) =
           let i : ℕ = walletRow L v in
           let e : wallet L i LOCKED ≡ sum (escrowCount L) (heldIn L (wallet L i ID)) =
@@ -110,7 +110,7 @@ module _ (L : Ledger) (wide : 8 ≤ L .edition .escrowLen) (sound-L : sound L �
           bal-found (L .wallets) (walletCount L) v LOCKED l ∙ e ∙ ap (λ (u : ℕ). sum (escrowCount L) (heldIn L u)) (row-hit (L .wallets) (walletCount L) v l)
       go (no l) =
           bal-missing (L .wallets) (walletCount L) v LOCKED (omega (arith, l))
-          ∙ sym (sum-zero (escrowCount L) (held-at (L .escrows) (L .edition .escrowLen) v)
+          ∙ sym (sum-zero (escrowCount L) (held-at (L .escrows) (L .edition .escrow) v)
           (λ i h.
           ap (λ (b : Bool). cond (b && eqb (escrow L i ESCROW-STATE) IS-OPEN) (escrow L i ESCROW-AMOUNT) 0)
           (ne-eqb (escrow L i FROM) v (λ e. l (subst (λ (u : ℕ). walletRow L u < walletCount L) e (from-says i h))))))
@@ -125,7 +125,7 @@ module _ (L : Ledger) (wide : 8 ≤ L .edition .escrowLen) (sound-L : sound L �
           (and-fst (written (escrowCount L) (receipt L i RECEIPT-LINK)) _
           (or-other (eqb (receipt L i RECEIPT-LINK) 0) _ e (all-at (receiptTests L i) (receipt-test i l) 0))))
 
-  parties-say : (i : ℕ) → i < receiptCount L → receipt L i RECEIPT-LINK ≢ 0 → Parties (L .escrows) (L .edition .escrowLen) (L .receipts) i
+  parties-say : (i : ℕ) → i < receiptCount L → receipt L i RECEIPT-LINK ≢ 0 → Parties (L .escrows) (L .edition .escrow) (L .receipts) i
   parties-say i l some-link =
       let k : ℕ = receipt L i RECEIPT-LINK in
       let t = or-other (eqb k 0) _ (ne-eqb k 0 some-link) (all-at (receiptTests L i) (receipt-test i l) 0) in
@@ -135,7 +135,7 @@ module _ (L : Ledger) (wide : 8 ≤ L .edition .escrowLen) (sound-L : sound L �
         to = eqb-true _ _ (and-snd (eqb (escrow L (k - 1) FROM) (receipt L i REQUESTER)) _ u);
       }
 
-  escrow-says : (i : ℕ) → i < escrowCount L → ERow (L .escrows) (L .edition .escrowLen) i
+  escrow-says : (i : ℕ) → i < escrowCount L → ERow (L .escrows) (L .edition .escrow) i
   escrow-says i l =
       let t = all-at (escrowTests L i) (escrow-test i l) in
       record {
@@ -214,11 +214,11 @@ module _ (L : Ledger) (good : Good L) where
       → escrow L i ESCROW-AMOUNT ≤ walletOf L (escrow L i FROM) LOCKED
   escrow-held i l o =
       subst (λ (x : ℕ). escrow L i ESCROW-AMOUNT ≤ x) (bal-found (L .wallets) (walletCount L) (escrow L i FROM) LOCKED (good .from-row i l))
-      (amount-held (L .wallets) (walletCount L) (head L GRANTED) (L .escrows) (L .edition .escrowLen) (escrowCount L) (L .receipts) (receiptCount L) good i l o)
+      (amount-held (L .wallets) (walletCount L) (head L GRANTED) (L .escrows) (L .edition .escrow) (escrowCount L) (L .receipts) (receiptCount L) good i l o)
 
   pub wallet-granted : (i : ℕ) → i < walletCount L → wallet L i BALANCE + wallet L i LOCKED ≤ head L GRANTED
   wallet-granted =
-      row-granted (L .wallets) (walletCount L) (head L GRANTED) (L .escrows) (L .edition .escrowLen) (escrowCount L) (L .receipts) (receiptCount L) good
+      row-granted (L .wallets) (walletCount L) (head L GRANTED) (L .escrows) (L .edition .escrow) (escrowCount L) (L .receipts) (receiptCount L) good
 
   pub balance-most : (i : ℕ) → i < walletCount L → wallet L i BALANCE ≤ MAX-GRANTED-MICRO
   balance-most i l = omega (arith, wallet-granted i l, good .most)

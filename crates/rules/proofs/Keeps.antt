@@ -110,7 +110,7 @@ keeps-putWallet i k v L = keeps-wallets _ L (length-put (L .wallets) WALLET-LEN 
 
 pub keeps-putEscrow : (i k v : ℕ) (L : Ledger) → Keeps L (putEscrow i k v L)
 unfolding putEscrow
-keeps-putEscrow i k v L = keeps-escrows _ L (length-put (L .escrows) (L .edition .escrowLen) i k v)
+keeps-putEscrow i k v L = keeps-escrows _ L (length-put (L .escrows) (L .edition .escrow) i k v)
 
 pub keeps-putReceipt : (i k v : ℕ) (L : Ledger) → Keeps L (putReceipt i k v L)
 unfolding putReceipt
@@ -125,7 +125,7 @@ keeps-newWallet vs L =
 pub keeps-newEscrow : (vs : List ℕ) (L : Ledger) → Keeps L (newEscrow vs L)
 unfolding newEscrow
 keeps-newEscrow vs L =
-    then (keeps-escrows _ L (length-put-row (L .escrows) (L .edition .escrowLen) (head L ESCROWS) vs))
+    then (keeps-escrows _ L (length-put-row (L .escrows) (L .edition .escrow) (head L ESCROWS) vs))
     (keeps-head ESCROWS _ _ (omega arith) (omega arith) (λ e. absurd (omega arith)))
 
 pub keeps-newReceipt : (vs : List ℕ) (L : Ledger) → Keeps L (newReceipt vs L)

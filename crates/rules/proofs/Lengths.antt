@@ -59,8 +59,8 @@ lengths-stay L (c ∷ cs) = lengths-then (by-call (λ (K : Ledger). Same-lengths
 lengths-right : {K L : Ledger} → Same-lengths K L → lengthsRight K ≡ lengthsRight L
 unfolding lengthsRight
 lengths-right {K} {L} p =
-    λ i. all (eqb (p .header i) (p .edition i .headerLen) ∷ right WALLET-LEN MAX-WALLETS (p .wallets i)
-    ∷ right (p .edition i .escrowLen) MAX-ESCROWS (p .escrows i) ∷ right RECEIPT-LEN MAX-RECEIPTS (p .receipts i)
+    λ i. all (eqb (p .header i) (p .edition i .header) ∷ right WALLET-LEN MAX-WALLETS (p .wallets i)
+    ∷ right (p .edition i .escrow) MAX-ESCROWS (p .escrows i) ∷ right RECEIPT-LEN MAX-RECEIPTS (p .receipts i)
     ∷ right JOURNAL-LEN MAX-ENTRIES (p .journal i) ∷ [])
   where
     right : ℕ → ℕ → ℕ → Bool
@@ -69,8 +69,8 @@ lengths-right {K} {L} p =
 pub lent-stays : {K L : Ledger} → Same-lengths K L → Lent L → Lent K
 lent-stays p l = record {
   lengths = lengths-right p ∙ l .lengths;
-  header = subst (λ (e : Edition). 8 ≤ e .headerLen) (sym (p .edition)) (l .header);
-  escrow = subst (λ (e : Edition). 8 ≤ e .escrowLen) (sym (p .edition)) (l .escrow);
+  header = subst (λ (e : Edition). 8 ≤ e .header) (sym (p .edition)) (l .header);
+  escrow = subst (λ (e : Edition). 8 ≤ e .escrow) (sym (p .edition)) (l .escrow);
 }
 
 -- starting afresh changes no length
@@ -80,7 +80,7 @@ lengths-started L l =
     cond-case (λ (o : Outcome). Same-lengths (o .left) L) (lengthsRight L) (outcome 0 0 (setHeader (freshHeader (L .edition)) L)) (outcome 1 0 L)
     (λ e. record {
       edition = refl;
-      header = omega (arith, length-replicate {A = ℕ} (L .edition .headerLen - 1) 0, header-length L (l .lengths), l .header);
+      header = omega (arith, length-replicate {A = ℕ} (L .edition .header - 1) 0, header-length L (l .lengths), l .header);
       wallets = refl;
       escrows = refl;
       receipts = refl;

@@ -65,7 +65,7 @@ module _ (E : Said) (L : Ledger) (B : Book) (g : Good L) (f : Fits L B) (wide : 
       recs = fits-K .recs;
     }
 
-    pub fits-open : escrowCount L < rowsIn (L .edition .escrowLen) (L .escrows) → E .word ≡ escrowCount L + 1
+    pub fits-open : escrowCount L < rowsIn (L .edition .escrow) (L .escrows) → E .word ≡ escrowCount L + 1
         → Fits (openEscrow (E .submission) L .after) (opens-escrow E B)
     unfolding K openEscrow raise lower putWallet newEscrow putHead opens-escrow
     fits-open room-e word-is =
@@ -74,8 +74,8 @@ module _ (E : Said) (L : Ledger) (B : Book) (g : Good L) (f : Fits L B) (wide : 
         (getD-set-other (K .header) ESCROWS GRANTED m 0 (omega arith)) (getD-set-same (K .header) ESCROWS m 0 (omega (arith, en .header)))
         (getD-set-other (K .header) ESCROWS RECEIPTS m 0 (omega arith))
         (acc-open E (K .wallets) (walletCount K) (head K GRANTED) B (fits-K .acc) (en .good .wallets-in) (en .keeps (E .submission .signer) s-row) enough-K)
-        (escs-open E (K .escrows) (K .edition .escrowLen) (escrowCount K) B (fits-K .escs) (en .good .wide)
-        (subst₃ (λ (e : Edition) (n : ℕ) (t : List ℕ). n < rowsIn (e .escrowLen) t) (sym (en .edition)) (sym (en .others ESCROWS (omega arith))) (sym (en .escrows)) room-e)
+        (escs-open E (K .escrows) (K .edition .escrow) (escrowCount K) B (fits-K .escs) (en .good .wide)
+        (subst₃ (λ (e : Edition) (n : ℕ) (t : List ℕ). n < rowsIn (e .escrow) t) (sym (en .edition)) (sym (en .others ESCROWS (omega arith))) (sym (en .escrows)) room-e)
         (omega (arith, word-is, en .others ESCROWS (omega arith))))
         (fits-K .recs)
 

@@ -128,7 +128,7 @@ module _ (L : Ledger) (r : Read) (z : answerOf L r ≡ 0) where
   wallet-place t e =
       leb-false _ _ (there (not (hasWallet L (s .target))) _ (ap not e) (for-op s (GRANT ∷ TRANSFER ∷ OPEN ∷ []) _ t (passed L r z 37)))
 
-  pub escrow-place : oneOf (OPEN ∷ []) (s .op) ≡ true → escrowCount L < rowsIn (L .edition .escrowLen) (L .escrows)
+  pub escrow-place : oneOf (OPEN ∷ []) (s .op) ≡ true → escrowCount L < rowsIn (L .edition .escrow) (L .escrows)
   unfolding refusals entryRefusals envelopeRefusals operationRefusals
   escrow-place t = leb-false _ _ (for-op s (OPEN ∷ []) _ t (passed L r z 38))
 

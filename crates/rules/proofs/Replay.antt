@@ -80,18 +80,18 @@ module _ (s : Submission) (L : Ledger) (wide : ENTRIES < length (L .header)) whe
 
 -- ---- calls
 
-wide-of : (L : Ledger) (b : List ℕ) → answerOf L (readOf b) ≡ 0 → 8 ≤ L .edition .headerLen → ENTRIES < length (L .header)
+wide-of : (L : Ledger) (b : List ℕ) → answerOf L (readOf b) ≡ 0 → 8 ≤ L .edition .header → ENTRIES < length (L .header)
 wide-of L b e h = omega (arith, header-length L (settled L (readOf b) e .lengths))
 
 -- what was seen is seen after any calls
-seen-submit : (L : Ledger) → 8 ≤ L .edition .headerLen → (g n : ℕ) → seen L g n ≡ true → (b : List ℕ) → seen (submit L b .left) g n ≡ true
+seen-submit : (L : Ledger) → 8 ≤ L .edition .header → (g n : ℕ) → seen L g n ≡ true → (b : List ℕ) → seen (submit L b .left) g n ≡ true
 seen-submit L h g n x b =
     by-left (λ (K : Ledger). seen K g n ≡ true) L b (λ e. seen-stays (readOf b .submission) L (wide-of L b e h) g n x) (λ e. x)
 
-pub seen-after : (L : Ledger) → 8 ≤ L .edition .headerLen → (calls : List Call) (g n : ℕ) → seen L g n ≡ true → seen (after L calls) g n ≡ true
+pub seen-after : (L : Ledger) → 8 ≤ L .edition .header → (calls : List Call) (g n : ℕ) → seen L g n ≡ true → seen (after L calls) g n ≡ true
 seen-after L h [] g n x = x
 seen-after L h (c ∷ cs) g n x =
-    seen-after (leaves L c) (subst (λ (e : Edition). 8 ≤ e .headerLen) (sym (lengths-stay L (c ∷ []) .edition)) h) cs g n
+    seen-after (leaves L c) (subst (λ (e : Edition). 8 ≤ e .header) (sym (lengths-stay L (c ∷ []) .edition)) h) cs g n
     (by-call (λ (K : Ledger). seen K g n ≡ true) L x (seen-submit L h g n x) c)
 
 pub replay-guard : Replay-guard
@@ -119,7 +119,7 @@ replay-guard L h b between c zero-b not-sweep same-signer same-nonce =
         (λ e. seen-itself s L (wide-of L b e h) not-sweep (settled-signed L (readOf b) e form not-sweep .place)) (λ e. absurd (e ok))
 
     seen-N : seen N (s .signer) (s .nonce) ≡ true
-    seen-N = seen-after M (subst (λ (e : Edition). 8 ≤ e .headerLen) (sym (lengths-submit L b .edition)) h) between (s .signer) (s .nonce) seen-M
+    seen-N = seen-after M (subst (λ (e : Edition). 8 ≤ e .header) (sym (lengths-submit L b .edition)) h) between (s .signer) (s .nonce) seen-M
 
     never : answerOf N (readOf c) ≢ 0
     never e =

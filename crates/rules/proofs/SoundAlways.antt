@@ -186,12 +186,12 @@ sound-started L lent =
     N = setHeader (freshHeader (L .edition)) L
 
     m : ℕ
-    m = L .edition .headerLen - 1
+    m = L .edition .header - 1
 
     none : (i : ℕ) → i < 0 → ⊥
     none i l = omega arith
 
-    empty : GoodTables (L .wallets) 0 0 (L .escrows) (L .edition .escrowLen) 0 (L .receipts) 0
+    empty : GoodTables (L .wallets) 0 0 (L .escrows) (L .edition .escrow) 0 (L .receipts) 0
     empty = record {
       wide = lent .escrow;
       wallets-in = omega arith;

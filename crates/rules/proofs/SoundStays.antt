@@ -34,10 +34,10 @@ use Rattle.rules.proofs.Passed.{written-row, link-from, link-to, receip
 
 -- tables that are good with the counts and the total that the header has
 pub good-counts : (K : Ledger) (nw g ne nr : ℕ) → walletCount K ≡ nw → head K GRANTED ≡ g → escrowCount K ≡ ne → receiptCount K ≡ nr
-    → GoodTables (K .wallets) nw g (K .escrows) (K .edition .escrowLen) ne (K .receipts) nr → Good K
+    → GoodTables (K .wallets) nw g (K .escrows) (K .edition .escrow) ne (K .receipts) nr → Good K
 good-counts K nw g ne nr a b c d good =
-    subst (λ (x : ℕ). GoodTables (K .wallets) (walletCount K) x (K .escrows) (K .edition .escrowLen) (escrowCount K) (K .receipts) (receiptCount K)) (sym b)
-    (subst₃ (λ (x y z : ℕ). GoodTables (K .wallets) x g (K .escrows) (K .edition .escrowLen) y (K .receipts) z) (sym a) (sym c) (sym d) good)
+    subst (λ (x : ℕ). GoodTables (K .wallets) (walletCount K) x (K .escrows) (K .edition .escrow) (escrowCount K) (K .receipts) (receiptCount K)) (sym b)
+    (subst₃ (λ (x y z : ℕ). GoodTables (K .wallets) x g (K .escrows) (K .edition .escrow) y (K .receipts) z) (sym a) (sym c) (sym d) good)
 
 -- a word of the header that is no count and not the total
 pub good-head : (k v : ℕ) (L : Ledger) → WALLETS ≢ k → GRANTED ≢ k → ESCROWS ≢ k → RECEIPTS ≢ k → Good L → Good (putHead k v L)
@@ -50,12 +50,12 @@ good-head k v L nw g ne nr good =
 good-word : (i c x : ℕ) (L : Ledger) → LOCKED < c → c < WALLET-LEN → (FROZEN ≡ c → x ≤ 1) → Good L → Good (putWallet i c x L)
 unfolding putWallet
 good-word i c x L low high flag good =
-    moved-tables (L .wallets) (walletCount L) (head L GRANTED) (L .escrows) (L .edition .escrowLen) (escrowCount L) (L .receipts) (receiptCount L)
+    moved-tables (L .wallets) (walletCount L) (head L GRANTED) (L .escrows) (L .edition .escrow) (escrowCount L) (L .receipts) (receiptCount L)
     (put (L .wallets) WALLET-LEN i c x) (head L GRANTED) good (moved-put (L .wallets) (walletCount L) i c x high (omega arith) flag)
     (λ v. bal-put-col (L .wallets) (walletCount L) i c x high (omega arith) v LOCKED (lit< tt) (omega arith))
     (total-put-col (L .wallets) (walletCount L) i c x high low ∙ good .totals) (good .most)
 
-module _ (L : Ledger) (r : Read) (z : answerOf L r ≡ 0) (form : Formed (r .submission)) (wide : 8 ≤ L .edition .escrowLen) (head-wide : 8 ≤ length (L .header)) where
+module _ (L : Ledger) (r : Read) (z : answerOf L r ≡ 0) (form : Formed (r .submission)) (wide : 8 ≤ L .edition .escrow) (head-wide : 8 ≤ length (L .header)) where
   abbrev s : Submission
   s = r .submission
 
@@ -84,7 +84,7 @@ module _ (L : Ledger) (r : Read) (z : answerOf L r ≡ 0) (form : Formed (r .sub
       good-counts (grant s L .after) (walletCount K) v (escrowCount K) (receiptCount K) (getD-set-other (K .header) GRANTED WALLETS v 0 (omega arith))
       (getD-set-same (K .header) GRANTED v 0 (omega (arith, en .header))) (getD-set-other (K .header) GRANTED ESCROWS v 0 (omega arith))
       (getD-set-other (K .header) GRANTED RECEIPTS v 0 (omega arith))
-      (moved-tables (K .wallets) (walletCount K) (head K GRANTED) (K .escrows) (K .edition .escrowLen) (escrowCount K) (K .receipts) (receiptCount K)
+      (moved-tables (K .wallets) (walletCount K) (head K GRANTED) (K .escrows) (K .edition .escrow) (escrowCount K) (K .receipts) (receiptCount K)
       (up (K .wallets) (walletCount K) BALANCE (s .target) (s .amount)) v (en .good)
       (moved-put (K .wallets) (walletCount K) _ BALANCE _ (lit< tt) (omega arith) (λ q. absurd (omega arith)))
       (λ w. omega (arith, up-bal (K .wallets) (walletCount K) BALANCE (s .target) (s .amount) (lit< tt) (omega arith) fits (en .found) LOCKED w (lit< tt)))
@@ -98,7 +98,7 @@ module _ (L : Ledger) (r : Read) (z : answerOf L r ≡ 0) (form : Formed (r .sub
       let t : oneOf paying (s .op) ≡ true = ap (oneOf paying) e in
       let fits = rows-fit WALLET-LEN (walletCount K) (K .wallets) (en .good .wallets-in) in
       let from = en .keeps (s .signer) (sender-row L r z t) in
-      moved-tables (K .wallets) (walletCount K) (head K GRANTED) (K .escrows) (K .edition .escrowLen) (escrowCount K) (K .receipts) (receiptCount K)
+      moved-tables (K .wallets) (walletCount K) (head K GRANTED) (K .escrows) (K .edition .escrow) (escrowCount K) (K .receipts) (receiptCount K)
       (mv (K .wallets) (walletCount K) BALANCE (s .signer) BALANCE (s .target) (s .amount)) (head K GRANTED) (en .good)
       (moved-then (moved-put (K .wallets) (walletCount K) _ BALANCE _ (lit< tt) (omega arith) (λ q. absurd (omega arith)))
       (moved-put _ (walletCount K) _ BALANCE _ (lit< tt) (omega arith) (λ q. absurd (omega arith))))
@@ -118,9 +118,9 @@ module _ (L : Ledger) (r : Read) (z : answerOf L r ≡ 0) (form : Formed (r .sub
       good-counts (openEscrow s L .after) (walletCount K) (head K GRANTED) v (receiptCount K) (getD-set-other (K .header) ESCROWS WALLETS v 0 (omega arith))
       (getD-set-other (K .header) ESCROWS GRANTED v 0 (omega arith)) (getD-set-same (K .header) ESCROWS v 0 (omega (arith, en .header)))
       (getD-set-other (K .header) ESCROWS RECEIPTS v 0 (omega arith))
-      (open-tables (K .wallets) (walletCount K) (head K GRANTED) (K .escrows) (K .edition .escrowLen) (escrowCount K) (K .receipts) (receiptCount K) (en .good)
+      (open-tables (K .wallets) (walletCount K) (head K GRANTED) (K .escrows) (K .edition .escrow) (escrowCount K) (K .receipts) (receiptCount K) (en .good)
       (s .signer) (s .target) (s .amount) (s .until) (s .now)
-      (subst₃ (λ (d : Edition) (n : ℕ) (l : List ℕ). n < rowsIn (d .escrowLen) l) (sym (en .edition)) (sym (en .others ESCROWS (omega arith))) (sym (en .escrows))
+      (subst₃ (λ (d : Edition) (n : ℕ) (l : List ℕ). n < rowsIn (d .escrow) l) (sym (en .edition)) (sym (en .others ESCROWS (omega arith))) (sym (en .escrows))
       (escrow-place L r z (ap (oneOf (OPEN ∷ [])) e)))
       (en .keeps (s .signer) (sender-row L r z t)) (en .found) (λ q. target-other L r z (ap (oneOf (TRANSFER ∷ OPEN ∷ CLAIM ∷ [])) e) (sym q))
       (amount-low L r z (ap (oneOf (GRANT ∷ TRANSFER ∷ OPEN ∷ [])) e)) (amount-high L r z (ap (oneOf (GRANT ∷ TRANSFER ∷ OPEN ∷ [])) e)) (enough en t)
@@ -137,7 +137,7 @@ module _ (L : Ledger) (r : Read) (z : answerOf L r ≡ 0) (form : Formed (r .sub
       good-counts (claim s L .after) (walletCount L) (head L GRANTED) (escrowCount L) v (getD-set-other (L .header) RECEIPTS WALLETS v 0 (omega arith))
       (getD-set-other (L .header) RECEIPTS GRANTED v 0 (omega arith)) (getD-set-other (L .header) RECEIPTS ESCROWS v 0 (omega arith))
       (getD-set-same (L .header) RECEIPTS v 0 (omega arith))
-      (claim-tables (L .wallets) (walletCount L) (head L GRANTED) (L .escrows) (L .edition .escrowLen) (escrowCount L) (L .receipts) (receiptCount L) good-L vs
+      (claim-tables (L .wallets) (walletCount L) (head L GRANTED) (L .escrows) (L .edition .escrow) (escrowCount L) (L .receipts) (receiptCount L) good-L vs
       refl (receipt-place L r z t) (form .until-right) (form .now-right) (lit≤ tt) auto (lit≤ tt, lit≤ tt) (link-le t (eqb (s .link) 0) refl)
       (link-from L r z t) (link-to L r z t))
     where

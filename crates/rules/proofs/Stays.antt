@@ -43,7 +43,7 @@ pub kept-end : (L : Ledger) → Good L → (i : ℕ) → i < escrowCount L → e
     → (st now signer : ℕ) → eqb st IS-OPEN ≡ false → State st → now ≤ LAST-TIME-MS → Kept L (endEscrow st now signer i L)
 unfolding endEscrow raise lower putWallet putEscrow
 kept-end L g i i< o st now signer c st-right now-right = record {
-  good = ended-tables (L .wallets) (walletCount L) (head L GRANTED) (L .escrows) (L .edition .escrowLen) (escrowCount L) (L .receipts) (receiptCount L)
+  good = ended-tables (L .wallets) (walletCount L) (head L GRANTED) (L .escrows) (L .edition .escrow) (escrowCount L) (L .receipts) (receiptCount L)
       g i i< o (eqb st RELEASED) st now signer c st-right now-right;
   header = refl;
   edition = refl;
@@ -52,7 +52,7 @@ kept-end L g i i< o st now signer c st-right now-right = record {
 pub kept-close : (L : Ledger) → Good L → (i st now signer : ℕ) → State st → now ≤ LAST-TIME-MS → Kept L (closeReceipt st now signer i L)
 unfolding closeReceipt putReceipt
 kept-close L g i st now signer st-right now-right = record {
-  good = closed-tables (L .wallets) (walletCount L) (head L GRANTED) (L .escrows) (L .edition .escrowLen) (escrowCount L) (L .receipts) (receiptCount L)
+  good = closed-tables (L .wallets) (walletCount L) (head L GRANTED) (L .escrows) (L .edition .escrow) (escrowCount L) (L .receipts) (receiptCount L)
       _ g (closing-shut (L .receipts) i st now signer st-right now-right);
   header = refl;
   edition = refl;
@@ -61,7 +61,7 @@ kept-close L g i st now signer st-right now-right = record {
 pub kept-code : (L : Ledger) → Good L → (i x : ℕ) → Kept L (putReceipt i RELEASE-CODE x L)
 unfolding putReceipt
 kept-code L g i x = record {
-  good = closed-tables (L .wallets) (walletCount L) (head L GRANTED) (L .escrows) (L .edition .escrowLen) (escrowCount L) (L .receipts) (receiptCount L)
+  good = closed-tables (L .wallets) (walletCount L) (head L GRANTED) (L .escrows) (L .edition .escrow) (escrowCount L) (L .receipts) (receiptCount L)
       _ g (closing-code (L .receipts) i x);
   header = refl;
   edition = refl;

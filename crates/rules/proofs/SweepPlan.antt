@@ -61,7 +61,7 @@ leaves-code now i v L = record {
   escrows = λ j. refl;
 }
 
-module _ (state now signer i : ℕ) (L : Ledger) (wide : 8 ≤ L .edition .escrowLen) where
+module _ (state now signer i : ℕ) (L : Ledger) (wide : 8 ≤ L .edition .escrow) where
   end-receipts : (j : ℕ) → dueReceipt (endEscrow state now signer i L) now j ≡ dueReceipt L now j
   unfolding endEscrow raise lower putWallet putEscrow
   end-receipts j = refl
@@ -71,15 +71,15 @@ module _ (state now signer i : ℕ) (L : Ledger) (wide : 8 ≤ L .edition .escro
   unfolding endEscrow raise lower putWallet putEscrow
   end-other j ne = ap₂ (λ (x y : ℕ). eqb x IS-OPEN && ltb y now) (row ESCROW-STATE (omega (arith, wide))) (row ESCROW-DEADLINE (omega (arith, wide)))
     where
-      row : (k : ℕ) → k < L .edition .escrowLen → escrow (endEscrow state now signer i L) j k ≡ escrow L j k
+      row : (k : ℕ) → k < L .edition .escrow → escrow (endEscrow state now signer i L) j k ≡ escrow L j k
       row k k< = unfold endEscrow raise lower putWallet putEscrow in
-          shut-row (L .escrows) (L .edition .escrowLen) i ESCROW-STATE state ESCROW-CLOSED-AT now ESCROW-CLOSED-BY signer (omega (arith, wide))
+          shut-row (L .escrows) (L .edition .escrow) i ESCROW-STATE state ESCROW-CLOSED-AT now ESCROW-CLOSED-BY signer (omega (arith, wide))
           (omega (arith, wide)) (omega (arith, wide)) j k k< ne
 
   end-deadline : (j : ℕ) → escrow (endEscrow state now signer i L) j ESCROW-DEADLINE ≡ escrow L j ESCROW-DEADLINE
   unfolding endEscrow raise lower putWallet putEscrow
   end-deadline j =
-      shut-col (L .escrows) (L .edition .escrowLen) i ESCROW-STATE state ESCROW-CLOSED-AT now ESCROW-CLOSED-BY signer (omega arith) (omega arith)
+      shut-col (L .escrows) (L .edition .escrow) i ESCROW-STATE state ESCROW-CLOSED-AT now ESCROW-CLOSED-BY signer (omega arith) (omega arith)
       (omega arith) j ESCROW-DEADLINE (omega arith) (omega arith) (omega arith) (omega arith)
 
   -- an escrow that is not stale is not due, before and after
@@ -100,7 +100,7 @@ module _ (state now signer i : ℕ) (L : Ledger) (wide : 8 ≤ L .edition .escro
       go (no e) = end-other j e
 
 -- a receipt accepted, or expired
-pub leaves-due : (now i : ℕ) (L : Ledger) → 8 ≤ L .edition .escrowLen → Leaves now i L (closeDueReceipt now i L)
+pub leaves-due : (now i : ℕ) (L : Ledger) → 8 ≤ L .edition .escrow → Leaves now i L (closeDueReceipt now i L)
 unfolding closeDueReceipt acceptRow
 leaves-due now i L wide =
     cond-case (Leaves now i L) (eqb (receipt L i AUTO-ACCEPT) 1) (acceptRow now 0 i L .after) (closeReceipt LAPSED now 0 i L)
@@ -126,13 +126,13 @@ leaves-due now i L wide =
 -- ---- the two loops
 
 abbrev Wide : Ledger → Type 0
-Wide L = 8 ≤ L .edition .escrowLen
+Wide L = 8 ≤ L .edition .escrow
 
 wide-receipt : (now : ℕ) (L : Ledger) (i : ℕ) → Wide L → Wide (closeDueReceipt now i L)
-wide-receipt now L i w = subst (λ (e : Edition). 8 ≤ e .escrowLen) (sym (keeps-due-receipt now i L .lengths .edition)) w
+wide-receipt now L i w = subst (λ (e : Edition). 8 ≤ e .escrow) (sym (keeps-due-receipt now i L .lengths .edition)) w
 
 wide-escrow : (now : ℕ) (L : Ledger) (i : ℕ) → Wide L → Wide (closeDueEscrow now i L)
-wide-escrow now L i w = subst (λ (e : Edition). 8 ≤ e .escrowLen) (sym (keeps-due-escrow now i L .lengths .edition)) w
+wide-escrow now L i w = subst (λ (e : Edition). 8 ≤ e .escrow) (sym (keeps-due-escrow now i L .lengths .edition)) w
 
 pub escrow-frame : (now : ℕ) (L : Ledger) → Wide L → (i j : ℕ) → j ≢ i → dueEscrow (closeDueEscrow now i L) now j ≡ dueEscrow L now j
 unfolding closeDueEscrow
@@ -143,7 +143,7 @@ pub closed-escrows : (now : ℕ) (ds : List ℕ) (L : Ledger) → Wide L → (j 
 closed-escrows now [] L w j = refl
 closed-escrows now (d ∷ ds) L w j = closed-escrows now ds (closeDueReceipt now d L) (wide-receipt now L d w) j ∙ leaves-due now d L w .escrows j
 
-module _ (now limit : ℕ) (L : Ledger) (w : 8 ≤ L .edition .escrowLen) where
+module _ (now limit : ℕ) (L : Ledger) (w : 8 ≤ L .edition .escrow) where
   R : List ℕ
   R = take limit (dueReceipts L now)
 

@@ -1,21 +1,23 @@
 -- Section "Lent tables": the five tables, their words by name, their lengths, and starting afresh.
 use mathlib.Core.List.{List, [], _∷_}
 use mathlib.Core.Bool.{Bool, cond, _&&_}
-use Prim.Native.Nat.{ℕ, _+_, _-_, _*_}
+use Prim.Native.Nat.{ℕ, _+_, _-_, _*_, _≤_, _<_, _^_}
 use lib.ListN.{getD, set, length, replicate}
 use lib.Dec.{eqb, ltb, leb}
 use Rattle.rules.specs.Limits.{FIRST-EDITION, HEADER-LEN, ESCROW-LEN, WALLET-LEN, RECEIPT-LEN, JOURNAL-LEN, MAX-WALLETS, MAX-ESCROWS, MAX-RECEIPTS, MAX-ENTRIES}
 use Rattle.rules.specs.Limits.{WALLETS, ESCROWS, RECEIPTS, ENTRIES, ID}
 use Rattle.rules.specs.Table.{word, put, putRow, rowsIn, tableRight, all, seek}
+pub use Rattle.rules.specs.declared.Edition.{Edition}
 
--- what an edition fixes: its number, and the words of a header and of an escrow row
-pub record Edition : Type 0 where
-  pub number : ℕ
-  pub headerLen : ℕ
-  pub escrowLen : ℕ
-
+-- an edition's number, and the words of its header and of its escrow row
 abbrev pub first-edition : Edition
-first-edition = record { number = FIRST-EDITION; headerLen = HEADER-LEN; escrowLen = ESCROW-LEN }
+first-edition = record { number = FIRST-EDITION; header = HEADER-LEN; escrow = ESCROW-LEN }
+
+-- an edition whose header and escrow rows have all the words of the first, and are small
+pub record Sized (ed : Edition) : Type 0 where
+  pub header : HEADER-LEN ≤ ed .header
+  pub escrow : ESCROW-LEN ≤ ed .escrow
+  pub small : ed .escrow < 2 ^ 16
 
 pub record Ledger : Type 0 where
   pub edition : Edition
@@ -25,9 +27,12 @@ pub record Ledger : Type 0 where
   pub receipts : List ℕ
   pub journal : List ℕ
 
--- five lent slices of the first edition
+-- five lent slices of an edition, and of the first
+abbrev pub ledgerOf : Edition → List ℕ → List ℕ → List ℕ → List ℕ → List ℕ → Ledger
+ledgerOf ed h w e r j = record { edition = ed; header = h; wallets = w; escrows = e; receipts = r; journal = j }
+
 abbrev pub ledger : List ℕ → List ℕ → List ℕ → List ℕ → List ℕ → Ledger
-ledger h w e r j = record { edition = first-edition; header = h; wallets = w; escrows = e; receipts = r; journal = j }
+ledger = ledgerOf first-edition
 
 -- a word of the header, and of a row of each table: `wallet L i BALANCE`
 abbrev pub head : Ledger → ℕ → ℕ
@@ -37,7 +42,7 @@ abbrev pub wallet : Ledger → ℕ → ℕ → ℕ
 wallet L i k = word (L .wallets) WALLET-LEN i k
 
 abbrev pub escrow : Ledger → ℕ → ℕ → ℕ
-escrow L i k = word (L .escrows) (L .edition .escrowLen) i k
+escrow L i k = word (L .escrows) (L .edition .escrow) i k
 
 abbrev pub receipt : Ledger → ℕ → ℕ → ℕ
 receipt L i k = word (L .receipts) RECEIPT-LEN i k
@@ -81,7 +86,10 @@ written n k = ltb 0 k && leb k n
 abbrev pub full : ℕ → List ℕ → ℕ → Bool
 full len t n = leb (rowsIn len t) n
 
--- the ledger with one table changed
+-- the ledger of another edition, and with one table changed
+abbrev pub setEdition : Edition → Ledger → Ledger
+setEdition e L = record { edition = e; header = L .header; wallets = L .wallets; escrows = L .escrows; receipts = L .receipts; journal = L .journal }
+
 abbrev pub setHeader : List ℕ → Ledger → Ledger
 setHeader t L = record { edition = L .edition; header = t; wallets = L .wallets; escrows = L .escrows; receipts = L .receipts; journal = L .journal }
 
@@ -105,7 +113,7 @@ unfoldable pub putWallet : ℕ → ℕ → ℕ → Ledger → Ledger
 putWallet i k v L = setWallets (put (L .wallets) WALLET-LEN i k v) L
 
 unfoldable pub putEscrow : ℕ → ℕ → ℕ → Ledger → Ledger
-putEscrow i k v L = setEscrows (put (L .escrows) (L .edition .escrowLen) i k v) L
+putEscrow i k v L = setEscrows (put (L .escrows) (L .edition .escrow) i k v) L
 
 unfoldable pub putReceipt : ℕ → ℕ → ℕ → Ledger → Ledger
 putReceipt i k v L = setReceipts (put (L .receipts) RECEIPT-LEN i k v) L
@@ -115,7 +123,7 @@ unfoldable pub newWallet : List ℕ → Ledger → Ledger
 newWallet vs L = putHead WALLETS (walletCount L + 1) (setWallets (putRow (L .wallets) WALLET-LEN (walletCount L) vs) L)
 
 unfoldable pub newEscrow : List ℕ → Ledger → Ledger
-newEscrow vs L = putHead ESCROWS (escrowCount L + 1) (setEscrows (putRow (L .escrows) (L .edition .escrowLen) (escrowCount L) vs) L)
+newEscrow vs L = putHead ESCROWS (escrowCount L + 1) (setEscrows (putRow (L .escrows) (L .edition .escrow) (escrowCount L) vs) L)
 
 unfoldable pub newReceipt : List ℕ → Ledger → Ledger
 newReceipt vs L = putHead RECEIPTS (receiptCount L + 1) (setReceipts (putRow (L .receipts) RECEIPT-LEN (receiptCount L) vs) L)
@@ -126,9 +134,9 @@ newEntry vs L = putHead ENTRIES (entryCount L + 1) (setJournal (putRow (L .journ
 -- the lengths of the five slices
 abbrev pub lengthTests : Ledger → List Bool
 lengthTests L =
-    eqb (length (L .header)) (L .edition .headerLen)
+    eqb (length (L .header)) (L .edition .header)
     ∷ tableRight WALLET-LEN MAX-WALLETS (L .wallets)
-    ∷ tableRight (L .edition .escrowLen) MAX-ESCROWS (L .escrows)
+    ∷ tableRight (L .edition .escrow) MAX-ESCROWS (L .escrows)
     ∷ tableRight RECEIPT-LEN MAX-RECEIPTS (L .receipts)
     ∷ tableRight JOURNAL-LEN MAX-ENTRIES (L .journal)
     ∷ []
@@ -147,7 +155,7 @@ outcome number word left = record { number = number; word = word; left = left }
 
 -- starting afresh: the header is the edition's number and zeros, and nothing else is touched
 abbrev pub freshHeader : Edition → List ℕ
-freshHeader e = e .number ∷ replicate (e .headerLen - 1) 0
+freshHeader e = e .number ∷ replicate (e .header - 1) 0
 
 unfoldable pub fresh : Ledger → Outcome
 fresh L = cond (lengthsRight L) (outcome 0 0 (setHeader (freshHeader (L .edition)) L)) (outcome 1 0 L)

@@ -2,6 +2,7 @@
 pub mod Limits
 pub mod Table
 pub mod Ledger
+pub mod Moments
 pub mod Record
 pub mod Sound
 pub mod Refusals

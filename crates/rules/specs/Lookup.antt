@@ -23,13 +23,13 @@ abbrev pub partAt : ℕ → List ℕ → ℕ → List ℕ
 partAt len t place = take len (drop place t)
 
 abbrev pub escrowPlace : Edition → List ℕ → List ℕ → ℕ → ℕ
-escrowPlace e header escrows number = rowPlace (e .headerLen) ESCROWS (e .escrowLen) MAX-ESCROWS header escrows number
+escrowPlace e header escrows number = rowPlace (e .header) ESCROWS (e .escrow) MAX-ESCROWS header escrows number
 
 abbrev pub receiptPlace : Edition → List ℕ → List ℕ → ℕ → ℕ
-receiptPlace e header receipts number = rowPlace (e .headerLen) RECEIPTS RECEIPT-LEN MAX-RECEIPTS header receipts number
+receiptPlace e header receipts number = rowPlace (e .header) RECEIPTS RECEIPT-LEN MAX-RECEIPTS header receipts number
 
 abbrev pub escrowPart : Edition → List ℕ → List ℕ → ℕ → List ℕ
-escrowPart e header escrows number = partAt (e .escrowLen) escrows (escrowPlace e header escrows number)
+escrowPart e header escrows number = partAt (e .escrow) escrows (escrowPlace e header escrows number)
 
 abbrev pub receiptPart : Edition → List ℕ → List ℕ → ℕ → List ℕ
 receiptPart e header receipts number = partAt RECEIPT-LEN receipts (receiptPlace e header receipts number)
@@ -38,5 +38,5 @@ receiptPart e header receipts number = partAt RECEIPT-LEN receipts (receiptPlace
 unfoldable pub walletNumber : Edition → List ℕ → List ℕ → ℕ → ℕ
 walletNumber e header wallets id =
     let n = getD header WALLETS 0 in
-    cond (countRight (e .headerLen) WALLETS WALLET-LEN MAX-WALLETS header wallets && (not (eqb id 0) && ltb (rowOf wallets n id) n))
+    cond (countRight (e .header) WALLETS WALLET-LEN MAX-WALLETS header wallets && (not (eqb id 0) && ltb (rowOf wallets n id) n))
     (rowOf wallets n id + 1) 0

@@ -24,8 +24,8 @@ use Rattle.rules.specs.declared.Read.{Read}
 -- lent tables of right lengths, whatever their words, of an edition that has all the named words
 pub record Lent (L : Ledger) : Type 0 where
   pub lengths : lengthsRight L ≡ true
-  pub header : 8 ≤ L .edition .headerLen
-  pub escrow : 8 ≤ L .edition .escrowLen
+  pub header : 8 ≤ L .edition .header
+  pub escrow : 8 ≤ L .edition .escrow
 
 abbrev pub started : Ledger → Ledger
 started L = fresh L .left
@@ -69,7 +69,7 @@ Write-answers = (s : Submission) (out : List ℕ) → (writeOf s out .number ≡
 abbrev pub Part-answers : Type 0
 Part-answers =
     (e : Edition) (header t : List ℕ) (k : ℕ) →
-    ((escrowPart e header t k ≡ []) ⊎ (length (escrowPart e header t k) ≡ e .escrowLen))
+    ((escrowPart e header t k ≡ []) ⊎ (length (escrowPart e header t k) ≡ e .escrow))
     × ((receiptPart e header t k ≡ []) ⊎ (length (receiptPart e header t k) ≡ RECEIPT-LEN))
     × (walletNumber e header t k ≤ rowsIn WALLET-LEN t)
 
@@ -90,15 +90,15 @@ Laid-down =
 
 -- a sweep counts the smaller of its limit and the due rows before the call, and closes the first of those in order
 abbrev pub Sweep-counts : Type 0
-Sweep-counts = (now limit : ℕ) (L : Ledger) → 8 ≤ L .edition .escrowLen → swept now limit L .closed ≡ min limit (due L now)
+Sweep-counts = (now limit : ℕ) (L : Ledger) → 8 ≤ L .edition .escrow → swept now limit L .closed ≡ min limit (due L now)
 
 abbrev pub Sweep-answers : Type 0
 Sweep-answers =
-    (L : Ledger) (b : List ℕ) → 8 ≤ L .edition .escrowLen → submit L b .number ≡ 0 → readOf b .submission .op ≡ SWEEP →
+    (L : Ledger) (b : List ℕ) → 8 ≤ L .edition .escrow → submit L b .number ≡ 0 → readOf b .submission .op ≡ SWEEP →
     submit L b .word ≡ min (readOf b .submission .amount) (due L (readOf b .submission .now))
 
 abbrev pub Sweep-closes : Type 0
-Sweep-closes = (now limit : ℕ) (L : Ledger) → 8 ≤ L .edition .escrowLen → swept now limit L .tables ≡ firstDueClosed now limit L
+Sweep-closes = (now limit : ℕ) (L : Ledger) → 8 ≤ L .edition .escrow → swept now limit L .tables ≡ firstDueClosed now limit L
 
 -- the fields fit the record's bytes and words, as every value of the struct does
 pub record Fields (s : Submission) : Type 0 where
@@ -136,7 +136,7 @@ Read-written =
 -- THE RETRY. Once a submission other than a sweep has settled, no later one with its signer and nonce changes anything.
 abbrev pub Replay-guard : Type 0
 Replay-guard =
-    (L : Ledger) → 8 ≤ L .edition .headerLen → (b : List ℕ) (between : List Call) (c : List ℕ) →
+    (L : Ledger) → 8 ≤ L .edition .header → (b : List ℕ) (between : List Call) (c : List ℕ) →
     submit L b .number ≡ 0 → readOf b .submission .op ≢ SWEEP →
     readOf c .submission .signer ≡ readOf b .submission .signer → readOf c .submission .nonce ≡ readOf b .submission .nonce →
     Refused (after (submit L b .left) between) c
@@ -178,7 +178,7 @@ Lengths-stay = (L : Ledger) (calls : List Call) → Same-lengths (after L calls)
 
 pub record Within (L : Ledger) : Type 0 where
   pub wallets : walletCount L ≤ rowsIn WALLET-LEN (L .wallets)
-  pub escrows : escrowCount L ≤ rowsIn (L .edition .escrowLen) (L .escrows)
+  pub escrows : escrowCount L ≤ rowsIn (L .edition .escrow) (L .escrows)
   pub receipts : receiptCount L ≤ rowsIn RECEIPT-LEN (L .receipts)
   pub journal : entryCount L ≤ rowsIn JOURNAL-LEN (L .journal)
 
@@ -216,7 +216,7 @@ Runs-add-up =
 -- and no retry settles: of two results of a run with one signer and nonce, the first settled and no sweep, the later one is a refusal
 abbrev pub Runs-refuse-retries : Type 0
 Runs-refuse-retries =
-    (L : Ledger) → 8 ≤ L .edition .headerLen → (first : Result) (between : List Result) (again : Result) →
+    (L : Ledger) → 8 ≤ L .edition .header → (first : Result) (between : List Result) (again : Result) →
     Meets L (first ∷ (between ++ (again ∷ []))) →
     first .number ≡ 0 → readOf (first .bytes) .submission .op ≢ SWEEP →
     readOf (again .bytes) .submission .signer ≡ readOf (first .bytes) .submission .signer →

@@ -149,7 +149,7 @@ operationRefusals L s =
     ∷ row 35 (on s (DISPUTE ∷ []) (clear s REASON-GIVEN))
     ∷ row 36 (on s (GRANT ∷ []) (ltb MAX-GRANTED-MICRO (head L GRANTED + s .amount)))
     ∷ row 37 (on s (GRANT ∷ TRANSFER ∷ OPEN ∷ []) (not (hasWallet L (s .target)) && full WALLET-LEN (L .wallets) (walletCount L)))
-    ∷ row 38 (on s (OPEN ∷ []) (full (L .edition .escrowLen) (L .escrows) (escrowCount L)))
+    ∷ row 38 (on s (OPEN ∷ []) (full (L .edition .escrow) (L .escrows) (escrowCount L)))
     ∷ row 39 (on s (CLAIM ∷ []) (full RECEIPT-LEN (L .receipts) (receiptCount L)))
     ∷ row 40 (on s signed (full JOURNAL-LEN (L .journal) (entryCount L)))
     ∷ []

@@ -25,7 +25,7 @@ abbrev pub headerTests : Ledger → List Bool
 headerTests L =
     eqb (head L EDITION) (L .edition .number) ∷ flag (head L SYSTEM-FROZEN) ∷ time (head L CLOCK)
     ∷ leb (walletCount L) (rowsIn WALLET-LEN (L .wallets))
-    ∷ leb (escrowCount L) (rowsIn (L .edition .escrowLen) (L .escrows))
+    ∷ leb (escrowCount L) (rowsIn (L .edition .escrow) (L .escrows))
     ∷ leb (receiptCount L) (rowsIn RECEIPT-LEN (L .receipts))
     ∷ leb (entryCount L) (rowsIn JOURNAL-LEN (L .journal))
     ∷ []

@@ -1,6 +1,9 @@
 // The submission and the answers, as every crate and the host know them; the named limits and columns; the status of an answer.
 ghost use mathlib.Core.Path.{_≡_};
 ghost use Rattle.rules.specs.Status.{statusOf};
+use crate::limits::ESCROW_LEN;
+use crate::limits::FIRST_EDITION;
+use crate::limits::HEADER_LEN;
 
 pub mod limits;
 
@@ -37,6 +40,19 @@ pub struct Answer {
     pub number: u64,
     pub word: u64,
 }
+
+// What an edition fixes: its number, and the words of a header and of an escrow row.
+pub struct Edition {
+    pub number: u64,
+    pub header: usize,
+    pub escrow: usize,
+}
+
+pub const FIRST: Edition = Edition {
+    number: FIRST_EDITION,
+    header: HEADER_LEN,
+    escrow: ESCROW_LEN,
+};
 
 // The number of a row, counted from 1; 0 is no row. They are types of their own, so that none is taken for another.
 #[repr(C)]

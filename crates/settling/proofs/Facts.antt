@@ -7,15 +7,16 @@ use Prim.Native.Nat.{ℕ, _-_, _%_, _≤_}
 use native.Mathlib.Nat.{le-trans}
 use native.Mathlib.Omega.{arith}
 use lib.ListN.{length, getD}
-use lib.Dec.{eqb, ltb, leb, lit≤}
+use lib.Dec.{eqb, ltb, leb}
 use borrow.Author.Tests.{ltb-true, leb-true, le-ltb}
 use Rattle.rules.specs.Limits.{WALLET-LEN, RECEIPT-LEN, JOURNAL-LEN, MAX-WALLETS, MAX-ESCROWS, MAX-RECEIPTS, MAX-ENTRIES, ENTRIES}
 use Rattle.rules.specs.Limits.{GRANT, TRANSFER, OPEN, RELEASE, REFUND, ACCEPT, DISPUTE}
 use Rattle.rules.specs.Table.{rowsIn, tableRight}
-use Rattle.rules.specs.Ledger.{Ledger, ledger, walletRow, receiptCount, written, lengthsRight, lengthTests}
+use Rattle.rules.specs.Ledger.{Ledger, ledgerOf, walletRow, receiptCount, written, lengthsRight, lengthTests}
 use Rattle.rules.specs.Sound.{sound, headerTests, soundTests}
 use Rattle.rules.specs.Refusals.{refusals, entryRefusals, envelopeRefusals, operationRefusals, oneOf, paying, closing}
 use Rattle.rules.specs.Submit.{answerOf}
+use Rattle.rules.specs.declared.Edition.{Edition}
 use Rattle.rules.specs.declared.Submission.{Submission}
 use Rattle.rules.specs.declared.Read.{Read}
 use Rattle.rules.proofs.Bools.{and-fst, not-false-true, all-at}
@@ -38,9 +39,9 @@ count-small len most n t right within =
 written-some : (n k : ℕ) → written n k ≡ true → 1 ≤ k
 written-some n k x = ltb-true 0 k (and-fst (ltb 0 k) (leb k n) x)
 
-module _ (h w e r j : List ℕ) (s : Submission) (p : Settles (ledger h w e r j) s) where
+module _ (ed : Edition) (h w e r j : List ℕ) (s : Submission) (p : Settles (ledgerOf ed h w e r j) s) where
   abbrev L : Ledger
-  L = ledger h w e r j
+  L = ledgerOf ed h w e r j
 
   abbrev read : Read
   read = record { number = 0; submission = s }
@@ -50,7 +51,7 @@ module _ (h w e r j : List ℕ) (s : Submission) (p : Settles (ledger h w e r j)
   answered = entry-pass L read (rw (p .lengths, p .is-sound)) ∙ p .passed
 
   pub good : Good L
-  good = good-of L (lit≤ tt) (p .is-sound)
+  good = good-of L (p .sized .escrow) (p .is-sound)
 
   length-test : (k : ℕ) → getD (lengthTests L) k true ≡ true
   unfolding lengthsRight
@@ -58,7 +59,7 @@ module _ (h w e r j : List ℕ) (s : Submission) (p : Settles (ledger h w e r j)
 
   pub small : Small h
   small = record {
-    whole = header-length L (p .lengths);
+    whole = omega (arith, header-length L (p .lengths), p .sized .header);
     wallets = count-small WALLET-LEN MAX-WALLETS _ w (length-test 1) (good .wallets-in);
     escrows = count-small _ MAX-ESCROWS _ e (length-test 2) (good .escrows-in);
     receipts = count-small RECEIPT-LEN MAX-RECEIPTS _ r (length-test 3) (good .receipts-in);
@@ -76,7 +77,7 @@ module _ (h w e r j : List ℕ) (s : Submission) (p : Settles (ledger h w e r j)
   -- 1 to 3
   receiving : oneOf (GRANT ∷ TRANSFER ∷ OPEN ∷ []) (s .op) ≡ true → Receiving h w s
   receiving t = record {
-    counted = counted-of h w e r small good;
+    counted = counted-of ed (p .sized .small) h w e r small good;
     place = λ l. wallet-place L read answered t (le-ltb _ _ l);
     balances = balance-most L good;
     amount = amount-high L read answered t;
@@ -94,21 +95,22 @@ module _ (h w e r j : List ℕ) (s : Submission) (p : Settles (ledger h w e r j)
   pub transferring : s .op ≡ TRANSFER → Paying h w s
   transferring o = pays (ap (oneOf (GRANT ∷ TRANSFER ∷ OPEN ∷ [])) o) (ap (oneOf paying) o)
 
-  pub opening : s .op ≡ OPEN → Opening h w s
+  pub opening : s .op ≡ OPEN → Opening ed h w s
   opening o = record {
     paying = pays (ap (oneOf (GRANT ∷ TRANSFER ∷ OPEN ∷ [])) o) (ap (oneOf paying) o);
     locked = locked-most L good (walletRow L (s .signer)) (sender-row L read answered (ap (oneOf paying) o));
+    len = p .sized .small;
     escrows = small .escrows;
   }
 
   -- 4 and 5
-  ending : oneOf closing (s .op) ≡ true → (1 ≤ s .target) × Ends h w e (s .target - 1)
-  ending t = (written-some _ _ (escrow-written L read answered t), ends-of h w e r small good (s .target - 1) (escrow-row L read answered t) (escrow-open L read answered t))
+  ending : oneOf closing (s .op) ≡ true → (1 ≤ s .target) × Ends ed h w e (s .target - 1)
+  ending t = (written-some _ _ (escrow-written L read answered t), ends-of ed (p .sized .small) h w e r small good (s .target - 1) (escrow-row L read answered t) (escrow-open L read answered t))
 
-  pub releasing : s .op ≡ RELEASE → (1 ≤ s .target) × Ends h w e (s .target - 1)
+  pub releasing : s .op ≡ RELEASE → (1 ≤ s .target) × Ends ed h w e (s .target - 1)
   releasing o = ending (ap (oneOf closing) o)
 
-  pub refunding : s .op ≡ REFUND → (1 ≤ s .target) × Ends h w e (s .target - 1)
+  pub refunding : s .op ≡ REFUND → (1 ≤ s .target) × Ends ed h w e (s .target - 1)
   refunding o = ending (ap (oneOf closing) o)
 
   -- 6
@@ -121,8 +123,8 @@ module _ (h w e r j : List ℕ) (s : Submission) (p : Settles (ledger h w e r j)
   receipt-written t =
       not-false-true _ (for-op s (ACCEPT ∷ DISPUTE ∷ []) (not (written (receiptCount L) (s .target))) t (passed L read answered 32))
 
-  pub accepting : s .op ≡ ACCEPT → (1 ≤ s .target) × Accepts h w e r (s .now) (s .target - 1)
-  accepting o = (written-some _ _ (receipt-written (ap (oneOf (ACCEPT ∷ DISPUTE ∷ [])) o)), accepts-of h w e r small good (s .now) (s .target - 1) (receipt-row L read answered (ap (oneOf (ACCEPT ∷ DISPUTE ∷ [])) o)))
+  pub accepting : s .op ≡ ACCEPT → (1 ≤ s .target) × Accepts ed h w e r (s .now) (s .target - 1)
+  accepting o = (written-some _ _ (receipt-written (ap (oneOf (ACCEPT ∷ DISPUTE ∷ [])) o)), accepts-of ed (p .sized .small) h w e r small good (s .now) (s .target - 1) (receipt-row L read answered (ap (oneOf (ACCEPT ∷ DISPUTE ∷ [])) o)))
 
   pub disputing : s .op ≡ DISPUTE → (1 ≤ s .target) × (s .target ≤ MAX-RECEIPTS)
   disputing o = (
@@ -131,9 +133,9 @@ module _ (h w e r j : List ℕ) (s : Submission) (p : Settles (ledger h w e r j)
   )
 
   -- 9
-  pub swept : Sweeping h w e r (s .now)
-  swept = record { small = small; good = good; now = formed .now-right }
+  pub swept : Sweeping ed h w e r (s .now)
+  swept = record { len = p .sized .small; small = small; good = good; now = formed .now-right }
 
   -- 10 and 11
   pub counted : Counted h w
-  counted = counted-of h w e r small good
+  counted = counted-of ed (p .sized .small) h w e r small good

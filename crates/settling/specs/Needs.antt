@@ -3,19 +3,21 @@ use mathlib.Core.Path.{_≡_}
 use mathlib.Core.List.{List, _++_}
 use mathlib.Core.Bool.{true}
 use Prim.Native.Nat.{ℕ}
-use Rattle.rules.specs.Ledger.{Ledger, ledger, lengthsRight}
+use Rattle.rules.specs.Ledger.{Ledger, Sized, ledgerOf, lengthsRight}
 use Rattle.rules.specs.Record.{wellFormed}
 use Rattle.rules.specs.Sound.{sound}
 use Rattle.rules.specs.Refusals.{first, envelopeRefusals, operationRefusals}
+use Rattle.rules.specs.declared.Edition.{Edition}
 use Rattle.rules.specs.declared.Submission.{Submission}
 
 pub record Settles (L : Ledger) (s : Submission) : Type 0 where
+  pub sized : Sized (L .edition)
   pub lengths : lengthsRight L ≡ true
   pub is-sound : sound L ≡ true
   pub formed : wellFormed s ≡ true
   pub passed : first (envelopeRefusals L s ++ operationRefusals L s) ≡ 0
 
 -- the same where the journal is not lent: there is one
-pub record Operates (header wallets escrows receipts : List ℕ) (s : Submission) : Type 0 where
+pub record Operates (ed : Edition) (header wallets escrows receipts : List ℕ) (s : Submission) : Type 0 where
   pub journal : List ℕ
-  pub settles : Settles (ledger header wallets escrows receipts journal) s
+  pub settles : Settles (ledgerOf ed header wallets escrows receipts journal) s

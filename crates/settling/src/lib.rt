@@ -1,4 +1,5 @@
 // Settling a submission that no refusal holds back: its operation, then the clock, then the journal.
+use rules::Edition;
 use rules::Submission;
 use rules::limits::ACCEPT;
 use rules::limits::CAPS;
@@ -15,36 +16,37 @@ use rules::limits::RELEASE;
 use rules::limits::SWEEP;
 use rules::limits::TRANSFER;
 ghost use mathlib.Core.Path.{_≡_};
-ghost use mathlib.Core.List.{List};
-ghost use Prim.Native.Nat.{ℕ, _<_, _≤_};
+ghost use Prim.Native.Nat.{_<_, _≤_};
 ghost use lib.ListN.{length, getD};
 ghost use Rattle.rules.specs.Limits.{MAX-ENTRIES, ENTRIES};
-ghost use Rattle.rules.specs.Ledger.{ledger};
+ghost use Rattle.rules.specs.Ledger.{Ledger};
+ghost use Rattle.rules.specs.Moments.{tables, lent, any, _of-edition_, _with-header_, _with-wallets_, _with-escrows_, _with-receipts_, _with-journal_};
 ghost use Rattle.rules.specs.Settle.{done, operate, enter, settle};
 ghost use Rattle.settling.specs.Needs.{Settles, Operates};
 
 // The operation, by its number. Each is lent the tables that it changes; the journal is lent to none.
 fn operate(
+    edition: Edition,
     header: &mut [u64],
     wallets: &mut [u64],
     escrows: &mut [u64],
     receipts: &mut [u64],
     s: Submission,
 ) -> u64
-    requires { ⌜ Operates (now header) (now wallets) (now escrows) (now receipts) s ⌝ }
-    ensures { λ x. ⌜ ((j : List ℕ) → done x (ledger (now (header .exit)) (now (wallets .exit)) (now (escrows .exit)) (now (receipts .exit)) j) ≡ operate s (ledger (now (header .entry)) (now (wallets .entry)) (now (escrows .entry)) (now (receipts .entry)) j)) ⌝ }
+    requires { ⌜ Operates edition (now header) (now wallets) (now escrows) (now receipts) s ⌝ }
+    ensures { λ x. ⌜ ((K : Ledger) → let L = any K of-edition edition with-header header with-wallets wallets with-escrows escrows with-receipts receipts in done x (L .exit) ≡ operate s (L .entry)) ⌝ }
 {
     let op = s.op;
     match op {
         GRANT => operations::grant(header, wallets, s),
         TRANSFER => operations::transfer(header, wallets, s),
-        OPEN => operations::open_escrow(header, wallets, escrows, s),
-        RELEASE => operations::release(header, wallets, escrows, s),
-        REFUND => operations::refund(header, wallets, escrows, s),
+        OPEN => operations::open_escrow(edition, header, wallets, escrows, s),
+        RELEASE => operations::release(edition, header, wallets, escrows, s),
+        REFUND => operations::refund(edition, header, wallets, escrows, s),
         CLAIM => operations::claim(header, receipts, s),
-        ACCEPT => operations::accept(header, wallets, escrows, receipts, s),
+        ACCEPT => operations::accept(edition, header, wallets, escrows, receipts, s),
         DISPUTE => operations::dispute(receipts, s),
-        SWEEP => sweeping::sweep(header, wallets, escrows, receipts, s.now, s.amount),
+        SWEEP => sweeping::sweep(edition, header, wallets, escrows, receipts, s.now, s.amount),
         FREEZE => operations::freeze(header, wallets, s),
         CAPS => operations::caps(header, wallets, s),
         // no well-formed record has another operation
@@ -55,7 +57,7 @@ fn operate(
 // All but a sweep add one journal row.
 fn enter(header: &mut [u64], journal: &mut [u64], s: Submission, word: u64)
     requires { ⌜ (ENTRIES < length (now header)) × (getD (now header) ENTRIES 0 ≤ MAX-ENTRIES) ⌝ }
-    ensures { λ x. ⌜ ((w e r : List ℕ) → ledger (now (header .exit)) w e r (now (journal .exit)) ≡ enter s word (ledger (now (header .entry)) w e r (now (journal .entry)))) ⌝ }
+    ensures { λ x. ⌜ ((K : Ledger) → let L = any K with-header header with-journal journal in L .exit ≡ enter s word (L .entry)) ⌝ }
 {
     if s.op == SWEEP {
         return;
@@ -80,6 +82,7 @@ fn enter(header: &mut [u64], journal: &mut [u64], s: Submission, word: u64)
 
 // Settles a submission that nothing refuses; the answer's word.
 pub fn settle(
+    edition: Edition,
     header: &mut [u64],
     wallets: &mut [u64],
     escrows: &mut [u64],
@@ -87,10 +90,10 @@ pub fn settle(
     journal: &mut [u64],
     s: Submission,
 ) -> u64
-    requires { ⌜ Settles (ledger (now header) (now wallets) (now escrows) (now receipts) (now journal)) s ⌝ }
-    ensures { λ x. ⌜ done x (ledger (now (header .exit)) (now (wallets .exit)) (now (escrows .exit)) (now (receipts .exit)) (now (journal .exit))) ≡ settle s (ledger (now (header .entry)) (now (wallets .entry)) (now (escrows .entry)) (now (receipts .entry)) (now (journal .entry))) ⌝ }
+    requires { ⌜ Settles (tables edition header wallets escrows receipts journal) s ⌝ }
+    ensures { λ x. ⌜ (let L = lent edition header wallets escrows receipts journal in done x (L .exit) ≡ settle s (L .entry)) ⌝ }
 {
-    let word = operate(header, wallets, escrows, receipts, s);
+    let word = operate(edition, header, wallets, escrows, receipts, s);
     header[CLOCK] = s.now;
     enter(header, journal, s, word);
     word

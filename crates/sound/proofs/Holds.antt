@@ -10,7 +10,7 @@ use lib.Dec.{eqb, ltb, leb}
 use lib.ListN.{getD, set, length-set, drop}
 use lib.Seq.{getD-set-same, getD-set-other}
 use borrow.Author.Tests.{eq-eqb, ne-eqb, eqb-true, ltb-true, leb-true}
-use Rattle.rules.specs.Limits.{ESCROW-LEN, WALLET-LEN, MAX-WALLETS, MAX-ESCROWS, MAX-AMOUNT-MICRO, ID, FROM, TO, ESCROW-AMOUNT, ESCROW-STATE, IS-OPEN}
+use Rattle.rules.specs.Limits.{WALLET-LEN, MAX-WALLETS, MAX-ESCROWS, MAX-AMOUNT-MICRO, ID, FROM, TO, ESCROW-AMOUNT, ESCROW-STATE, IS-OPEN}
 use Rattle.rules.specs.Table.{word, all, every, distinct, sum}
 use Rattle.rules.specs.Ledger.{rowOf}
 use Rattle.rules.specs.Sound.{escrowTests, heldIn}
@@ -54,79 +54,79 @@ pub row-has : (w : List ℕ) (n x : ℕ) → rowOf w n x < n → word w WALLET-L
 unfolding rowOf
 row-has w n x h = eqb-true _ x (seek-hit n (λ i. eqb (word w WALLET-LEN i ID) x) h)
 
-module _ (w : List ℕ) (n : ℕ) (e : List ℕ) (m : ℕ) where
+module _ (len : ℕ) (w : List ℕ) (n : ℕ) (e : List ℕ) (m : ℕ) where
   -- the tests of escrow k
   abbrev right : ℕ → Bool
-  right k = all (escrowTests (parties w n e m) k)
+  right k = all (escrowTests (parties len w n e m) k)
 
   -- of its own row, and of all
-  pub row-wrong : (k : ℕ) (b : Bool) → b ≡ all (drop 2 (escrowTests (parties e 0 e 0) k)) → b ≡ false → right k ≡ false
+  pub row-wrong : (k : ℕ) (b : Bool) → b ≡ all (drop 2 (escrowTests (parties len e 0 e 0) k)) → b ≡ false → right k ≡ false
   row-wrong k b x z =
-      and-none-snd (ltb (rowOf w n (word e ESCROW-LEN k FROM)) n) (all (drop 1 (escrowTests (parties w n e m) k)))
-      (and-none-snd (ltb (rowOf w n (word e ESCROW-LEN k TO)) n) (all (drop 2 (escrowTests (parties w n e m) k))) (sym x ∙ z))
+      and-none-snd (ltb (rowOf w n (word e len k FROM)) n) (all (drop 1 (escrowTests (parties len w n e m) k)))
+      (and-none-snd (ltb (rowOf w n (word e len k TO)) n) (all (drop 2 (escrowTests (parties len w n e m) k))) (sym x ∙ z))
 
-  pub row-right : (k number : ℕ) (b : Bool) → b ≡ all (drop 2 (escrowTests (parties e 0 e 0) k)) → b ≡ true
-      → Sent w n (word e ESCROW-LEN k FROM) (word e ESCROW-LEN k TO) number → right k ≡ true
+  pub row-right : (k number : ℕ) (b : Bool) → b ≡ all (drop 2 (escrowTests (parties len e 0 e 0) k)) → b ≡ true
+      → Sent w n (word e len k FROM) (word e len k TO) number → right k ≡ true
   row-right k number b x z s =
-      and-intro (ltb (rowOf w n (word e ESCROW-LEN k FROM)) n) (all (drop 1 (escrowTests (parties w n e m) k))) (s .sender)
-      (and-intro (ltb (rowOf w n (word e ESCROW-LEN k TO)) n) (all (drop 2 (escrowTests (parties w n e m) k))) (s .recipient) (sym x ∙ z))
+      and-intro (ltb (rowOf w n (word e len k FROM)) n) (all (drop 1 (escrowTests (parties len w n e m) k))) (s .sender)
+      (and-intro (ltb (rowOf w n (word e len k TO)) n) (all (drop 2 (escrowTests (parties len w n e m) k))) (s .recipient) (sym x ∙ z))
 
   -- an amount that is right is within its limit
-  pub amount-most : (k : ℕ) → right k ≡ true → word e ESCROW-LEN k ESCROW-AMOUNT ≤ MAX-AMOUNT-MICRO
+  pub amount-most : (k : ℕ) → right k ≡ true → word e len k ESCROW-AMOUNT ≤ MAX-AMOUNT-MICRO
   amount-most k x =
       leb-true _ _
-      (and-snd (leb 1 (word e ESCROW-LEN k ESCROW-AMOUNT)) (leb (word e ESCROW-LEN k ESCROW-AMOUNT) MAX-AMOUNT-MICRO)
-      (all-at (escrowTests (parties w n e m) k) x 3))
+      (and-snd (leb 1 (word e len k ESCROW-AMOUNT)) (leb (word e len k ESCROW-AMOUNT) MAX-AMOUNT-MICRO)
+      (all-at (escrowTests (parties len w n e m) k) x 3))
 
 -- what escrow k holds of an id, where that is the sender's and where it is another's
-module _ (w e : List ℕ) (x k : ℕ) where
-  pub held-most : heldIn (parties w 0 e 0) x k ≤ word e ESCROW-LEN k ESCROW-AMOUNT
+module _ (len : ℕ) (w e : List ℕ) (x k : ℕ) where
+  pub held-most : heldIn (parties len w 0 e 0) x k ≤ word e len k ESCROW-AMOUNT
   unfolding heldIn
-  held-most = go (eqb (word e ESCROW-LEN k FROM) x && eqb (word e ESCROW-LEN k ESCROW-STATE) IS-OPEN)
+  held-most = go (eqb (word e len k FROM) x && eqb (word e len k ESCROW-STATE) IS-OPEN)
     where
-      go : (b : Bool) → cond b (word e ESCROW-LEN k ESCROW-AMOUNT) 0 ≤ word e ESCROW-LEN k ESCROW-AMOUNT
+      go : (b : Bool) → cond b (word e len k ESCROW-AMOUNT) 0 ≤ word e len k ESCROW-AMOUNT
       go true = le-refl _
       go false = omega arith
 
-  held-own : word e ESCROW-LEN k FROM ≡ x
-      → heldIn (parties w 0 e 0) x k ≡ cond (eqb (word e ESCROW-LEN k ESCROW-STATE) IS-OPEN) (word e ESCROW-LEN k ESCROW-AMOUNT) 0
+  held-own : word e len k FROM ≡ x
+      → heldIn (parties len w 0 e 0) x k ≡ cond (eqb (word e len k ESCROW-STATE) IS-OPEN) (word e len k ESCROW-AMOUNT) 0
   unfolding heldIn
   held-own p = rw (eq-eqb _ _ p)
 
-  held-other : (word e ESCROW-LEN k FROM ≡ x → ⊥) → heldIn (parties w 0 e 0) x k ≡ 0
+  held-other : (word e len k FROM ≡ x → ⊥) → heldIn (parties len w 0 e 0) x k ≡ 0
   unfolding heldIn
   held-other p = rw (ne-eqb _ _ p)
 
 -- what an escrow holds of its sender
-abbrev held-by : List ℕ → ℕ → ℕ
-held-by e k = cond (eqb (word e ESCROW-LEN k ESCROW-STATE) IS-OPEN) (word e ESCROW-LEN k ESCROW-AMOUNT) 0
+abbrev held-by : ℕ → List ℕ → ℕ → ℕ
+held-by len e k = cond (eqb (word e len k ESCROW-STATE) IS-OPEN) (word e len k ESCROW-AMOUNT) 0
 
 -- the sum of a wallet and what one escrow more holds of it fit
-pub sums-fit : (w : List ℕ) (n : ℕ) (e : List ℕ) (m k from to number h : ℕ) (sums : List ℕ)
-    → Held w n e k sums → every k (λ i. all (escrowTests (parties w n e m) i)) ≡ true → all (escrowTests (parties w n e m) k) ≡ true
-    → Sent w n from to number → k < MAX-ESCROWS → h ≡ held-by e k → getD sums number 0 + h ≤ MAX-ESCROWS * MAX-AMOUNT-MICRO
-sums-fit w n e m k from to number h sums a r now s l x =
+pub sums-fit : (len : ℕ) (w : List ℕ) (n : ℕ) (e : List ℕ) (m k from to number h : ℕ) (sums : List ℕ)
+    → Held len w n e k sums → every k (λ i. all (escrowTests (parties len w n e m) i)) ≡ true → all (escrowTests (parties len w n e m) k) ≡ true
+    → Sent w n from to number → k < MAX-ESCROWS → h ≡ held-by len e k → getD sums number 0 + h ≤ MAX-ESCROWS * MAX-AMOUNT-MICRO
+sums-fit len w n e m k from to number h sums a r now s l x =
     let row< : rowOf w n from < n = sent-row w n from to number s in
-    let one : h ≤ MAX-AMOUNT-MICRO = rw x (most (eqb (word e ESCROW-LEN k ESCROW-STATE) IS-OPEN)) in
-    let sofar : heldOf w e k (rowOf w n from) ≤ k * MAX-AMOUNT-MICRO =
-    sum-most k MAX-AMOUNT-MICRO (heldIn (parties w 0 e 0) (word w WALLET-LEN (rowOf w n from) ID))
-    (λ j q. omega (arith, held-most w e (word w WALLET-LEN (rowOf w n from) ID) j, amount-most w n e m j (every-at k (right w n e m) r j q))) in
+    let one : h ≤ MAX-AMOUNT-MICRO = rw x (most (eqb (word e len k ESCROW-STATE) IS-OPEN)) in
+    let sofar : heldOf len w e k (rowOf w n from) ≤ k * MAX-AMOUNT-MICRO =
+    sum-most k MAX-AMOUNT-MICRO (heldIn (parties len w 0 e 0) (word w WALLET-LEN (rowOf w n from) ID))
+    (λ j q. omega (arith, held-most len w e (word w WALLET-LEN (rowOf w n from) ID) j, amount-most len w n e m j (every-at k (right len w n e m) r j q))) in
     omega (arith, ap (λ i. getD sums i 0) (s .numbered) ∙ a .sum (rowOf w n from) row<)
   where
-    most : (b : Bool) → cond b (word e ESCROW-LEN k ESCROW-AMOUNT) 0 ≤ MAX-AMOUNT-MICRO
-    most true = amount-most w n e m k now
+    most : (b : Bool) → cond b (word e len k ESCROW-AMOUNT) 0 ≤ MAX-AMOUNT-MICRO
+    most true = amount-most len w n e m k now
     most false = omega arith
 
 -- the sums with one escrow more
-pub held-more : (w : List ℕ) (n : ℕ) (e : List ℕ) (k to number h : ℕ) (sums : List ℕ)
-    → Held w n e k sums → distinct n (λ i. word w WALLET-LEN i ID) ≡ true → n ≤ MAX-WALLETS
-    → Sent w n (word e ESCROW-LEN k FROM) to number
-    → h ≡ held-by e k → Held w n e (k + 1) (set sums number (getD sums number 0 + h))
-held-more w n e k to number h sums a d few s x =
+pub held-more : (len : ℕ) (w : List ℕ) (n : ℕ) (e : List ℕ) (k to number h : ℕ) (sums : List ℕ)
+    → Held len w n e k sums → distinct n (λ i. word w WALLET-LEN i ID) ≡ true → n ≤ MAX-WALLETS
+    → Sent w n (word e len k FROM) to number
+    → h ≡ held-by len e k → Held len w n e (k + 1) (set sums number (getD sums number 0 + h))
+held-more len w n e k to number h sums a d few s x =
     record { room = simp length-set (a .room); sum = λ i l. go i l (ℕ-discrete i row) }
   where
     from : ℕ
-    from = word e ESCROW-LEN k FROM
+    from = word e len k FROM
 
     row : ℕ
     row = rowOf w n from
@@ -135,9 +135,9 @@ held-more w n e k to number h sums a d few s x =
     row< = sent-row w n from to number s
 
     held : ℕ → ℕ → ℕ
-    held i = heldIn (parties w 0 e 0) (word w WALLET-LEN i ID)
+    held i = heldIn (parties len w 0 e 0) (word w WALLET-LEN i ID)
 
-    go : (i : ℕ) → i < n → Dec (i ≡ row) → getD (set sums number (getD sums number 0 + h)) (i + 1) 0 ≡ heldOf w e (k + 1) i
+    go : (i : ℕ) → i < n → Dec (i ≡ row) → getD (set sums number (getD sums number 0 + h)) (i + 1) 0 ≡ heldOf len w e (k + 1) i
     go i l (yes p) =
         let q : i + 1 ≡ number = omega (arith, s .numbered) in
         let own : from ≡ word w WALLET-LEN i ID = sym (ap (λ j. word w WALLET-LEN j ID) p ∙ row-has w n from row<) in
@@ -147,7 +147,7 @@ held-more w n e k to number h sums a d few s x =
           arith,
           sym (ap (λ j. getD sums j 0) q) ∙ a .sum i l,
           sum-step k (held i),
-          held-own w e (word w WALLET-LEN i ID) k own ∙ sym x,
+          held-own len w e (word w WALLET-LEN i ID) k own ∙ sym x,
         )
     go i l (no p) =
         getD-set-other sums number (i + 1) (getD sums number 0 + h) 0 (omega (arith, p, s .numbered))
@@ -155,8 +155,8 @@ held-more w n e k to number h sums a d few s x =
           arith,
           a .sum i l,
           sum-step k (held i),
-          held-other w e (word w WALLET-LEN i ID) k (λ z. p (sym (first-row w n from i d l (sym z)))),
+          held-other len w e (word w WALLET-LEN i ID) k (λ z. p (sym (first-row w n from i d l (sym z)))),
         )
 
-pub held-end : (w : List ℕ) (n : ℕ) (e : List ℕ) (m k : ℕ) (sums : List ℕ) → k ≤ m → m ≤ k → Held w n e k sums → Held w n e m sums
-held-end w n e m k sums l g h = let q : k ≡ m = omega arith in rw q at h
+pub held-end : (len : ℕ) (w : List ℕ) (n : ℕ) (e : List ℕ) (m k : ℕ) (sums : List ℕ) → k ≤ m → m ≤ k → Held len w n e k sums → Held len w n e m sums
+held-end len w n e m k sums l g h = let q : k ≡ m = omega arith in rw q at h

@@ -8,7 +8,8 @@ use lib.ListN.{getD}
 use borrow.Author.Tests.{not-true, not-false}
 use Rattle.rules.specs.Limits.{GRANTED, MAX-GRANTED-MICRO}
 use Rattle.rules.specs.Table.{all, every}
-use Rattle.rules.specs.Ledger.{ledger, head, walletCount, escrowCount, receiptCount, entryCount}
+use Rattle.rules.specs.Ledger.{ledgerOf, head, walletCount, escrowCount, receiptCount, entryCount}
+use Rattle.rules.specs.declared.Edition.{Edition}
 use Rattle.rules.specs.Sound.{headerTests, walletTests, receiptTests, entryTests, heldIn, credits, soundTests, sound}
 use Rattle.rules.proofs.Bools.{and-none-fst, and-none-snd}
 use Rattle.sound.specs.Parts.{walletsIn, receiptsIn, entriesIn, partiesRight}
@@ -40,50 +41,50 @@ module _ (w t p r j s : Bool) (e : w && (t && (p && (r && j))) ≡ s) where
   last-5 : w ≡ true → t ≡ true → p ≡ true → r ≡ true → j ≡ s
   last-5 a b c d = sym (rw (a, b, c, d)) ∙ e
 
-module _ (h w e r j : List ℕ) where
-  pub no-header : (b : Bool) → b ≡ all (headerTests (ledger h w e r j)) → not b ≡ true → false ≡ sound (ledger h w e r j)
+module _ (ed : Edition) (h w e r j : List ℕ) where
+  pub no-header : (b : Bool) → b ≡ all (headerTests (ledgerOf ed h w e r j)) → not b ≡ true → false ≡ sound (ledgerOf ed h w e r j)
   unfolding sound
-  no-header b x z = let y : all (headerTests (ledger h w e r j)) ≡ false = sym x ∙ not-true b z in rw y
+  no-header b x z = let y : all (headerTests (ledgerOf ed h w e r j)) ≡ false = sym x ∙ not-true b z in rw y
 
   -- what each pass answers for
   abbrev W : Bool
-  W = every (walletCount (ledger h w e r j)) (λ i. all (walletTests (walletsIn w (walletCount (ledger h w e r j))) i))
+  W = every (walletCount (ledgerOf ed h w e r j)) (λ i. all (walletTests (walletsIn w (walletCount (ledgerOf ed h w e r j))) i))
 
   abbrev T : Bool
   T =
-      eqb (credits (walletsIn w (walletCount (ledger h w e r j)))) (head (ledger h w e r j) GRANTED)
-      && leb (head (ledger h w e r j) GRANTED) MAX-GRANTED-MICRO
+      eqb (credits (walletsIn w (walletCount (ledgerOf ed h w e r j)))) (head (ledgerOf ed h w e r j) GRANTED)
+      && leb (head (ledgerOf ed h w e r j) GRANTED) MAX-GRANTED-MICRO
 
   abbrev P : Bool
-  P = partiesRight w (walletCount (ledger h w e r j)) e (escrowCount (ledger h w e r j))
+  P = partiesRight (ed .escrow) w (walletCount (ledgerOf ed h w e r j)) e (escrowCount (ledgerOf ed h w e r j))
 
   abbrev R : Bool
-  R = every (receiptCount (ledger h w e r j)) (λ i. all (receiptTests (receiptsIn e (escrowCount (ledger h w e r j)) r) i))
+  R = every (receiptCount (ledgerOf ed h w e r j)) (λ i. all (receiptTests (receiptsIn (ed .escrow) e (escrowCount (ledgerOf ed h w e r j)) r) i))
 
   abbrev J : Bool
-  J = every (entryCount (ledger h w e r j)) (λ i. all (entryTests (entriesIn j) i))
+  J = every (entryCount (ledgerOf ed h w e r j)) (λ i. all (entryTests (entriesIn j) i))
 
-  module _ (y : all (headerTests (ledger h w e r j)) ≡ true) where
-    whole : W && (T && (P && (R && J))) ≡ sound (ledger h w e r j)
+  module _ (y : all (headerTests (ledgerOf ed h w e r j)) ≡ true) where
+    whole : W && (T && (P && (R && J))) ≡ sound (ledgerOf ed h w e r j)
     unfolding sound credits heldIn partiesRight
     whole = rw y (reorder (test 1) (test 7 && test 8) (test 2) (test 3) (test 6) (test 4) (test 5))
       where
         test : ℕ → Bool
-        test k = getD (soundTests (ledger h w e r j)) k true
+        test k = getD (soundTests (ledgerOf ed h w e r j)) k true
 
-    pub no-wallets : (b : Bool) → b ≡ W → not b ≡ true → false ≡ sound (ledger h w e r j)
+    pub no-wallets : (b : Bool) → b ≡ W → not b ≡ true → false ≡ sound (ledgerOf ed h w e r j)
     no-wallets b x z = fail-1 W T P R J _ whole (sym x ∙ not-true b z)
 
-    pub no-total : (b : Bool) → b ≡ T → not b ≡ true → false ≡ sound (ledger h w e r j)
+    pub no-total : (b : Bool) → b ≡ T → not b ≡ true → false ≡ sound (ledgerOf ed h w e r j)
     no-total b x z = fail-2 W T P R J _ whole (sym x ∙ not-true b z)
 
-    pub no-parties : (b : Bool) → b ≡ P → not b ≡ true → false ≡ sound (ledger h w e r j)
+    pub no-parties : (b : Bool) → b ≡ P → not b ≡ true → false ≡ sound (ledgerOf ed h w e r j)
     no-parties b x z = fail-3 W T P R J _ whole (sym x ∙ not-true b z)
 
-    pub no-receipts : (b : Bool) → b ≡ R → not b ≡ true → false ≡ sound (ledger h w e r j)
+    pub no-receipts : (b : Bool) → b ≡ R → not b ≡ true → false ≡ sound (ledgerOf ed h w e r j)
     no-receipts b x z = fail-4 W T P R J _ whole (sym x ∙ not-true b z)
 
     pub the-entries : (a b c d f : Bool) → a ≡ W → not a ≡ false → b ≡ T → not b ≡ false → c ≡ P → not c ≡ false → d ≡ R → not d ≡ false
-        → f ≡ J → f ≡ sound (ledger h w e r j)
+        → f ≡ J → f ≡ sound (ledgerOf ed h w e r j)
     the-entries a b c d f x k y l z m u n v =
         v ∙ last-5 W T P R J _ whole (sym x ∙ not-false a k) (sym y ∙ not-false b l) (sym z ∙ not-false c m) (sym u ∙ not-false d n)

@@ -14,7 +14,6 @@ use index::PLACES;
 use rules::limits::ESCROW_AMOUNT;
 use rules::limits::ESCROW_CLOSED_AT;
 use rules::limits::ESCROW_DEADLINE;
-use rules::limits::ESCROW_LEN;
 use rules::limits::ESCROW_STATE;
 use rules::limits::EXPIRED;
 use rules::limits::FROM;
@@ -27,11 +26,11 @@ use rules::limits::TO;
 use rules::limits::WALLET_LEN;
 
 // What an escrow's own row shows.
-fn escrow_right(e: &[u64], k: usize) -> bool
-    requires { ⌜ k * ESCROW-LEN + ESCROW-LEN ≤ length (now e) ⌝ }
-    ensures { λ r. ⌜ r ≡ all (drop 2 (escrowTests (parties (now (e .entry)) 0 (now (e .entry)) 0) k)) ⌝ }
+fn escrow_right(e: &[u64], len: usize, k: usize) -> bool
+    requires { ⌜ (k * len + len ≤ length (now e)) × (ESCROW-LEN ≤ len) ⌝ }
+    ensures { λ r. ⌜ r ≡ all (drop 2 (escrowTests (parties len (now (e .entry)) 0 (now (e .entry)) 0) k)) ⌝ }
 {
-    let at = k * ESCROW_LEN;
+    let at = k * len;
     let amount = e[at + ESCROW_AMOUNT];
     let state = e[at + ESCROW_STATE];
     (e[at + FROM] != e[at + TO])
@@ -43,12 +42,12 @@ fn escrow_right(e: &[u64], k: usize) -> bool
 }
 
 // What an escrow holds of its sender.
-fn held_in(e: &[u64], k: usize) -> u64
-    requires { ⌜ k * ESCROW-LEN + ESCROW-LEN ≤ length (now e) ⌝ }
-    ensures { λ r. ⌜ r ≡ cond (eqb (word (now (e .entry)) ESCROW-LEN k ESCROW-STATE) IS-OPEN) (word (now (e .entry)) ESCROW-LEN k ESCROW-AMOUNT) 0 ⌝ }
+fn held_in(e: &[u64], len: usize, k: usize) -> u64
+    requires { ⌜ (k * len + len ≤ length (now e)) × (ESCROW-LEN ≤ len) ⌝ }
+    ensures { λ r. ⌜ r ≡ cond (eqb (word (now (e .entry)) len k ESCROW-STATE) IS-OPEN) (word (now (e .entry)) len k ESCROW-AMOUNT) 0 ⌝ }
 {
-    if e[k * ESCROW_LEN + ESCROW_STATE] == IS_OPEN {
-        e[k * ESCROW_LEN + ESCROW_AMOUNT]
+    if e[k * len + ESCROW_STATE] == IS_OPEN {
+        e[k * len + ESCROW_AMOUNT]
     } else {
         0
     }
@@ -62,30 +61,23 @@ fn hold_all(
     n: usize,
     most: usize,
     e: &[u64],
+    len: usize,
     m: usize,
     sums: &mut [u64; NUMBERS],
 ) -> bool
-    requires { ⌜ Tables (now w) n (now e) m × Indexed (now w) n (now ids) (now t) × Held (now w) n (now e) 0 (now sums) ⌝ }
-    ensures { λ r. ⌜ HeldAll (now (w .entry)) n (now (e .entry)) m (now (sums .exit)) r ⌝ }
+    requires { ⌜ Tables len (now w) n (now e) m × Indexed (now w) n (now ids) (now t) × Held len (now w) n (now e) 0 (now sums) ⌝ }
+    ensures { λ r. ⌜ HeldAll len (now (w .entry)) n (now (e .entry)) m (now (sums .exit)) r ⌝ }
 {
     let mut k: usize = 0;
     while k < m {
-        if !escrow_right(e, k) {
+        if !escrow_right(e, len, k) {
             return false;
         }
-        let from = index::sender(
-            w,
-            ids,
-            t,
-            n,
-            most,
-            e[k * ESCROW_LEN + FROM],
-            e[k * ESCROW_LEN + TO],
-        );
+        let from = index::sender(w, ids, t, n, most, e[k * len + FROM], e[k * len + TO]);
         if from == 0 {
             return false;
         }
-        sums[from] = sums[from] + held_in(e, k);
+        sums[from] = sums[from] + held_in(e, len, k);
         k += 1;
     }
     true
@@ -108,9 +100,9 @@ fn locked_right(w: &[u64], n: usize, sums: &[u64; NUMBERS]) -> bool
 
 // Whether ids differ, each escrow names two different written wallets and is right by itself, and each wallet's locked is what its open
 // escrows hold.
-pub fn parties_right(w: &[u64], n: usize, e: &[u64], m: usize) -> bool
-    requires { ⌜ Tables (now w) n (now e) m ⌝ }
-    ensures { λ r. ⌜ r ≡ partiesRight (now (w .entry)) n (now (e .entry)) m ⌝ }
+pub fn parties_right(w: &[u64], n: usize, e: &[u64], len: usize, m: usize) -> bool
+    requires { ⌜ Tables len (now w) n (now e) m ⌝ }
+    ensures { λ r. ⌜ r ≡ partiesRight len (now (w .entry)) n (now (e .entry)) m ⌝ }
 {
     let mut ids = [0u64; NUMBERS];
     index::copy_ids(w, n, &mut ids);
@@ -120,7 +112,7 @@ pub fn parties_right(w: &[u64], n: usize, e: &[u64], m: usize) -> bool
         return false;
     }
     let mut sums = [0u64; NUMBERS];
-    if !hold_all(w, &ids, &t, n, most, e, m, &mut sums) {
+    if !hold_all(w, &ids, &t, n, most, e, len, m, &mut sums) {
         return false;
     }
     locked_right(w, n, &sums)

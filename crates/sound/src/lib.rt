@@ -1,17 +1,18 @@
 // Whether a ledger is sound, exactly, for any words: one pass over each table.
 ghost use mathlib.Core.Path.{_≡_};
 ghost use mathlib.Core.Bool.{true};
+ghost use Prim.Native.Nat.{_≤_};
 ghost use lib.ListN.{length};
 ghost use Rattle.rules.specs.Table.{all};
-ghost use Rattle.rules.specs.Ledger.{ledger, lengthsRight};
+ghost use Rattle.rules.specs.Ledger.{Sized, lengthsRight};
+ghost use Rattle.rules.specs.Moments.{tables, lent};
 ghost use Rattle.rules.specs.Sound.{headerTests, sound};
-ghost use Rattle.rules.specs.Limits.{HEADER-LEN};
+ghost use Rattle.rules.specs.Limits.{HEADER-LEN, ESCROW-LEN};
+use rules::Edition;
 use rules::limits::CLOCK;
 use rules::limits::EDITION;
 use rules::limits::ENTRIES;
-use rules::limits::ESCROW_LEN;
 use rules::limits::ESCROWS;
-use rules::limits::FIRST_EDITION;
 use rules::limits::GRANTED;
 use rules::limits::JOURNAL_LEN;
 use rules::limits::LAST_TIME_MS;
@@ -28,36 +29,38 @@ mod wallets;
 
 // The edition, a flag, the clock, and counts within their tables.
 fn header_right(
+    edition: Edition,
     header: &[u64],
     wallets: &[u64],
     escrows: &[u64],
     receipts: &[u64],
     journal: &[u64],
 ) -> bool
-    requires { ⌜ length (now header) ≡ HEADER-LEN ⌝ }
-    ensures { λ r. ⌜ r ≡ all (headerTests (ledger (now (header .entry)) (now (wallets .entry)) (now (escrows .entry)) (now (receipts .entry)) (now (journal .entry)))) ⌝ }
+    requires { ⌜ (HEADER-LEN ≤ length (now header)) × (ESCROW-LEN ≤ edition .escrow) ⌝ }
+    ensures { λ r. ⌜ r ≡ all (headerTests (lent edition header wallets escrows receipts journal .entry)) ⌝ }
 {
-    (header[EDITION] == FIRST_EDITION)
+    (header[EDITION] == edition.number)
         & ((header[SYSTEM_FROZEN] <= 1)
             & ((header[CLOCK] <= LAST_TIME_MS)
                 & ((header[WALLETS] as usize <= wallets.len() / WALLET_LEN)
-                    & ((header[ESCROWS] as usize <= escrows.len() / ESCROW_LEN)
+                    & ((header[ESCROWS] as usize <= escrows.len() / edition.escrow)
                         & ((header[RECEIPTS] as usize <= receipts.len() / RECEIPT_LEN)
                             & (header[ENTRIES] as usize <= journal.len() / JOURNAL_LEN))))))
 }
 
 // Whether the ledger is sound. Its tables have the right lengths.
 pub fn is_sound(
+    edition: Edition,
     header: &[u64],
     wallets: &[u64],
     escrows: &[u64],
     receipts: &[u64],
     journal: &[u64],
 ) -> bool
-    requires { ⌜ lengthsRight (ledger (now header) (now wallets) (now escrows) (now receipts) (now journal)) ≡ true ⌝ }
-    ensures { λ r. ⌜ r ≡ sound (ledger (now (header .entry)) (now (wallets .entry)) (now (escrows .entry)) (now (receipts .entry)) (now (journal .entry))) ⌝ }
+    requires { ⌜ (lengthsRight (tables edition header wallets escrows receipts journal) ≡ true) × Sized edition ⌝ }
+    ensures { λ r. ⌜ r ≡ sound (lent edition header wallets escrows receipts journal .entry) ⌝ }
 {
-    if !header_right(header, wallets, escrows, receipts, journal) {
+    if !header_right(edition, header, wallets, escrows, receipts, journal) {
         return false;
     }
     let n = header[WALLETS] as usize;
@@ -68,10 +71,16 @@ pub fn is_sound(
     if !wallets::total_right(wallets, n, header[GRANTED]) {
         return false;
     }
-    if !escrows::parties_right(wallets, n, escrows, m) {
+    if !escrows::parties_right(wallets, n, escrows, edition.escrow, m) {
         return false;
     }
-    if !receipts::receipts_right(escrows, m, receipts, header[RECEIPTS] as usize) {
+    if !receipts::receipts_right(
+        escrows,
+        edition.escrow,
+        m,
+        receipts,
+        header[RECEIPTS] as usize,
+    ) {
         return false;
     }
     journal::entries_right(journal, header[ENTRIES] as usize)

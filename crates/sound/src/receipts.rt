@@ -9,7 +9,6 @@ ghost use Rattle.sound.specs.Parts.{receiptsIn};
 use rules::limits::ACCEPTANCE_DEADLINE;
 use rules::limits::AUTO_ACCEPT;
 use rules::limits::CLAIMED_AT;
-use rules::limits::ESCROW_LEN;
 use rules::limits::FROM;
 use rules::limits::LAPSED;
 use rules::limits::LAST_TIME_MS;
@@ -30,9 +29,9 @@ fn row_at(number: usize) -> usize
 }
 
 // A link is 0, or a written escrow from the requester to the provider.
-fn link_right(e: &[u64], m: usize, r: &[u64], k: usize) -> bool
-    requires { ⌜ (m * ESCROW-LEN ≤ length (now e)) × (ESCROW-LEN ≤ length (now e)) × (k * RECEIPT-LEN + RECEIPT-LEN ≤ length (now r)) ⌝ }
-    ensures { λ x. ⌜ x ≡ linkRight (receiptsIn (now (e .entry)) m (now (r .entry))) k ⌝ }
+fn link_right(e: &[u64], len: usize, m: usize, r: &[u64], k: usize) -> bool
+    requires { ⌜ (m * len ≤ length (now e)) × (len ≤ length (now e)) × (k * RECEIPT-LEN + RECEIPT-LEN ≤ length (now r)) × (ESCROW-LEN ≤ len) ⌝ }
+    ensures { λ x. ⌜ x ≡ linkRight (receiptsIn len (now (e .entry)) m (now (r .entry))) k ⌝ }
 {
     let at = k * RECEIPT_LEN;
     let link = r[at + RECEIPT_LINK] as usize;
@@ -41,15 +40,14 @@ fn link_right(e: &[u64], m: usize, r: &[u64], k: usize) -> bool
     }
     let row = row_at(link);
     (link == 0)
-        | ((e[row * ESCROW_LEN + FROM] == r[at + REQUESTER])
-            & (e[row * ESCROW_LEN + TO] == r[at + PROVIDER]))
+        | ((e[row * len + FROM] == r[at + REQUESTER]) & (e[row * len + TO] == r[at + PROVIDER]))
 }
 
-fn receipt_right(e: &[u64], m: usize, r: &[u64], k: usize) -> bool
-    requires { ⌜ (m * ESCROW-LEN ≤ length (now e)) × (ESCROW-LEN ≤ length (now e)) × (k * RECEIPT-LEN + RECEIPT-LEN ≤ length (now r)) ⌝ }
-    ensures { λ x. ⌜ x ≡ all (receiptTests (receiptsIn (now (e .entry)) m (now (r .entry))) k) ⌝ }
+fn receipt_right(e: &[u64], len: usize, m: usize, r: &[u64], k: usize) -> bool
+    requires { ⌜ (m * len ≤ length (now e)) × (len ≤ length (now e)) × (k * RECEIPT-LEN + RECEIPT-LEN ≤ length (now r)) × (ESCROW-LEN ≤ len) ⌝ }
+    ensures { λ x. ⌜ x ≡ all (receiptTests (receiptsIn len (now (e .entry)) m (now (r .entry))) k) ⌝ }
 {
-    let link = link_right(e, m, r, k);
+    let link = link_right(e, len, m, r, k);
     let at = k * RECEIPT_LEN;
     let state = r[at + RECEIPT_STATE];
     link
@@ -59,13 +57,13 @@ fn receipt_right(e: &[u64], m: usize, r: &[u64], k: usize) -> bool
                     & ((r[at + AUTO_ACCEPT] <= 1) & ((PENDING <= state) & (state <= LAPSED))))))
 }
 
-pub fn receipts_right(e: &[u64], m: usize, r: &[u64], p: usize) -> bool
-    requires { ⌜ (m * ESCROW-LEN ≤ length (now e)) × (ESCROW-LEN ≤ length (now e)) × (p * RECEIPT-LEN ≤ length (now r)) ⌝ }
-    ensures { λ x. ⌜ x ≡ every p (λ i. all (receiptTests (receiptsIn (now (e .entry)) m (now (r .entry))) i)) ⌝ }
+pub fn receipts_right(e: &[u64], len: usize, m: usize, r: &[u64], p: usize) -> bool
+    requires { ⌜ (m * len ≤ length (now e)) × (len ≤ length (now e)) × (p * RECEIPT-LEN ≤ length (now r)) × (ESCROW-LEN ≤ len) ⌝ }
+    ensures { λ x. ⌜ x ≡ every p (λ i. all (receiptTests (receiptsIn len (now (e .entry)) m (now (r .entry))) i)) ⌝ }
 {
     let mut k: usize = 0;
     while k < p {
-        if !receipt_right(e, m, r, k) {
+        if !receipt_right(e, len, m, r, k) {
             return false;
         }
         k += 1;

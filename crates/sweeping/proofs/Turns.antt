@@ -9,33 +9,35 @@ use native.Mathlib.Numerals.{add-one}
 use native.Mathlib.Omega.{arith}
 use lib.Dec.{eqb, ltb}
 use borrow.Author.Tests.{eq-eqb, ne-eqb, lt-ltb}
-use Rattle.rules.specs.Limits.{ESCROW-LEN, RECEIPT-LEN, AUTO-ACCEPT, LAPSED, RECEIPT-STATE, ACCEPTANCE-DEADLINE, PENDING, ESCROW-STATE, ESCROW-DEADLINE, IS-OPEN, EXPIRED}
+use Rattle.rules.specs.Limits.{RECEIPT-LEN, AUTO-ACCEPT, LAPSED, RECEIPT-STATE, ACCEPTANCE-DEADLINE, PENDING, ESCROW-STATE, ESCROW-DEADLINE, IS-OPEN, EXPIRED}
 use Rattle.rules.specs.Table.{word, loop}
-use Rattle.rules.specs.Ledger.{Ledger, ledger}
+use Rattle.rules.specs.Ledger.{Ledger, setReceipts}
+use Rattle.rules.specs.declared.Edition.{Edition}
 use Rattle.rules.specs.Settle.{Sweep, done, Done, acceptRow, closeReceipt, endEscrow, closeDueReceipt, closeDueEscrow, sweepReceipt, sweepEscrow}
 use Rattle.rules.proofs.Turns.{turn}
+use Rattle.rules.proofs.UpTo.{upToEscrows, upToReceipts}
 use Rattle.sweeping.specs.Needs.{underWay}
 
 -- a due receipt is accepted, or expires
 pub due-accepted :
-    (h w e r w₁ e₁ r₁ : List ℕ) (time i auto x : ℕ)
+    (ed : Edition) (h w e r w₁ e₁ r₁ : List ℕ) (time i auto x : ℕ)
     → auto ≡ word r RECEIPT-LEN i AUTO-ACCEPT
     → auto ≡ 1
-    → ((j : List ℕ) → done x (ledger h w₁ e₁ r₁ j) ≡ acceptRow time 0 i (ledger h w e r j))
-    → (j : List ℕ)
-    → ledger h w₁ e₁ r₁ j ≡ closeDueReceipt time i (ledger h w e r j)
+    → ((K : Ledger) → done x (upToReceipts K ed h w₁ e₁ r₁) ≡ acceptRow time 0 i (upToReceipts K ed h w e r))
+    → (K : Ledger)
+    → upToReceipts K ed h w₁ e₁ r₁ ≡ closeDueReceipt time i (upToReceipts K ed h w e r)
 unfolding closeDueReceipt
-due-accepted h w e r w₁ e₁ r₁ time i auto x a z q j = rw (eq-eqb _ _ (sym a ∙ z)) (ap (λ (d : Done). d .after) (q j))
+due-accepted ed h w e r w₁ e₁ r₁ time i auto x a z q K = rw (eq-eqb _ _ (sym a ∙ z)) (ap (λ (d : Done). d .after) (q K))
 
 pub due-lapsed :
-    (h w e r r₁ : List ℕ) (time i auto : ℕ)
+    (ed : Edition) (h w e r r₁ : List ℕ) (time i auto : ℕ)
     → auto ≡ word r RECEIPT-LEN i AUTO-ACCEPT
     → (auto ≡ 1 → ⊥)
-    → ((h w e j : List ℕ) → ledger h w e r₁ j ≡ closeReceipt LAPSED time 0 i (ledger h w e r j))
-    → (j : List ℕ)
-    → ledger h w e r₁ j ≡ closeDueReceipt time i (ledger h w e r j)
+    → ((K : Ledger) → setReceipts r₁ K ≡ closeReceipt LAPSED time 0 i (setReceipts r K))
+    → (K : Ledger)
+    → upToReceipts K ed h w e r₁ ≡ closeDueReceipt time i (upToReceipts K ed h w e r)
 unfolding closeDueReceipt
-due-lapsed h w e r r₁ time i auto a z q j = rw (ne-eqb _ _ (λ (y : word r RECEIPT-LEN i AUTO-ACCEPT ≡ 1). z (a ∙ y))) (q h w e j)
+due-lapsed ed h w e r r₁ time i auto a z q K = rw (ne-eqb _ _ (λ (y : word r RECEIPT-LEN i AUTO-ACCEPT ≡ 1). z (a ∙ y))) (q (upToReceipts K ed h w e r))
 
 -- whatever is due and however it is closed
 turned : (due : Ledger → ℕ → Bool) (close : ℕ → Ledger → Ledger) (L K : Ledger) (i room closed : ℕ)
@@ -49,47 +51,47 @@ passed-over due close L i room closed d l =
     let c : closed + 0 ≡ closed = omega arith in
     rw (lt-ltb 0 room l, d, r, c)
 
-module _ (h w e r : List ℕ) (time i : ℕ) (b : Bool)
+module _ (ed : Edition) (h w e r : List ℕ) (time i : ℕ) (b : Bool)
     (x : b ≡ (eqb (word r RECEIPT-LEN i RECEIPT-STATE) PENDING && ltb (word r RECEIPT-LEN i ACCEPTANCE-DEADLINE) time)) where
   pub receipt-closed :
       (w₁ e₁ r₁ : List ℕ)
       → b ≡ true
-      → ((j : List ℕ) → ledger h w₁ e₁ r₁ j ≡ closeDueReceipt time i (ledger h w e r j))
-      → (j : List ℕ) (room closed : ℕ) → 0 < room
-      → underWay (room - 1) (closed + 1) (ledger h w₁ e₁ r₁ j) ≡ sweepReceipt time i (underWay room closed (ledger h w e r j))
+      → ((K : Ledger) → upToReceipts K ed h w₁ e₁ r₁ ≡ closeDueReceipt time i (upToReceipts K ed h w e r))
+      → (K : Ledger) (room closed : ℕ) → 0 < room
+      → underWay (room - 1) (closed + 1) (upToReceipts K ed h w₁ e₁ r₁) ≡ sweepReceipt time i (underWay room closed (upToReceipts K ed h w e r))
   unfolding sweepReceipt
-  receipt-closed w₁ e₁ r₁ t q j room closed l =
+  receipt-closed w₁ e₁ r₁ t q K room closed l =
       turned (λ L k. eqb (word (L .receipts) RECEIPT-LEN k RECEIPT-STATE) PENDING && ltb (word (L .receipts) RECEIPT-LEN k ACCEPTANCE-DEADLINE) time) (closeDueReceipt time)
-      (ledger h w e r j) (ledger h w₁ e₁ r₁ j) i room closed (sym x ∙ t) (q j) l
+      (upToReceipts K ed h w e r) (upToReceipts K ed h w₁ e₁ r₁) i room closed (sym x ∙ t) (q K) l
 
   pub receipt-passed :
-      b ≡ false → (j : List ℕ) (room closed : ℕ) → 0 < room
-      → underWay (room - 0) (closed + 0) (ledger h w e r j) ≡ sweepReceipt time i (underWay room closed (ledger h w e r j))
+      b ≡ false → (K : Ledger) (room closed : ℕ) → 0 < room
+      → underWay (room - 0) (closed + 0) (upToReceipts K ed h w e r) ≡ sweepReceipt time i (underWay room closed (upToReceipts K ed h w e r))
   unfolding sweepReceipt
-  receipt-passed t j room closed l =
+  receipt-passed t K room closed l =
       passed-over (λ L k. eqb (word (L .receipts) RECEIPT-LEN k RECEIPT-STATE) PENDING && ltb (word (L .receipts) RECEIPT-LEN k ACCEPTANCE-DEADLINE) time) (closeDueReceipt time)
-      (ledger h w e r j) i room closed (sym x ∙ t) l
+      (upToReceipts K ed h w e r) i room closed (sym x ∙ t) l
 
-module _ (h w e : List ℕ) (time i : ℕ) (b : Bool)
-    (x : b ≡ (eqb (word e ESCROW-LEN i ESCROW-STATE) IS-OPEN && ltb (word e ESCROW-LEN i ESCROW-DEADLINE) time)) where
+module _ (ed : Edition) (h w e : List ℕ) (time i : ℕ) (b : Bool)
+    (x : b ≡ (eqb (word e (ed .escrow) i ESCROW-STATE) IS-OPEN && ltb (word e (ed .escrow) i ESCROW-DEADLINE) time)) where
   pub escrow-closed :
       (w₁ e₁ : List ℕ)
       → b ≡ true
-      → ((r j : List ℕ) → ledger h w₁ e₁ r j ≡ endEscrow EXPIRED time 0 i (ledger h w e r j))
-      → (r j : List ℕ) (room closed : ℕ) → 0 < room
-      → underWay (room - 1) (closed + 1) (ledger h w₁ e₁ r j) ≡ sweepEscrow time i (underWay room closed (ledger h w e r j))
+      → ((K : Ledger) → upToEscrows K ed h w₁ e₁ ≡ endEscrow EXPIRED time 0 i (upToEscrows K ed h w e))
+      → (K : Ledger) (room closed : ℕ) → 0 < room
+      → underWay (room - 1) (closed + 1) (upToEscrows K ed h w₁ e₁) ≡ sweepEscrow time i (underWay room closed (upToEscrows K ed h w e))
   unfolding sweepEscrow closeDueEscrow
-  escrow-closed w₁ e₁ t q r j room closed l =
-      turned (λ L k. eqb (word (L .escrows) (L .edition .escrowLen) k ESCROW-STATE) IS-OPEN && ltb (word (L .escrows) (L .edition .escrowLen) k ESCROW-DEADLINE) time) (endEscrow EXPIRED time 0)
-      (ledger h w e r j) (ledger h w₁ e₁ r j) i room closed (sym x ∙ t) (q r j) l
+  escrow-closed w₁ e₁ t q K room closed l =
+      turned (λ L k. eqb (word (L .escrows) (L .edition .escrow) k ESCROW-STATE) IS-OPEN && ltb (word (L .escrows) (L .edition .escrow) k ESCROW-DEADLINE) time) (endEscrow EXPIRED time 0)
+      (upToEscrows K ed h w e) (upToEscrows K ed h w₁ e₁) i room closed (sym x ∙ t) (q K) l
 
   pub escrow-passed :
-      b ≡ false → (r j : List ℕ) (room closed : ℕ) → 0 < room
-      → underWay (room - 0) (closed + 0) (ledger h w e r j) ≡ sweepEscrow time i (underWay room closed (ledger h w e r j))
+      b ≡ false → (K : Ledger) (room closed : ℕ) → 0 < room
+      → underWay (room - 0) (closed + 0) (upToEscrows K ed h w e) ≡ sweepEscrow time i (underWay room closed (upToEscrows K ed h w e))
   unfolding sweepEscrow
-  escrow-passed t r j room closed l =
-      passed-over (λ L k. eqb (word (L .escrows) (L .edition .escrowLen) k ESCROW-STATE) IS-OPEN && ltb (word (L .escrows) (L .edition .escrowLen) k ESCROW-DEADLINE) time) (closeDueEscrow time)
-      (ledger h w e r j) i room closed (sym x ∙ t) l
+  escrow-passed t K room closed l =
+      passed-over (λ L k. eqb (word (L .escrows) (L .edition .escrow) k ESCROW-STATE) IS-OPEN && ltb (word (L .escrows) (L .edition .escrow) k ESCROW-DEADLINE) time) (closeDueEscrow time)
+      (upToEscrows K ed h w e) i room closed (sym x ∙ t) l
 
 -- ---- a loop of turns
 

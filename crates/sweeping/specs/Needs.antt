@@ -2,11 +2,12 @@
 use mathlib.Core.Path.{_≡_}
 use mathlib.Core.List.{List, []}
 use mathlib.Core.Bool.{true}
-use Prim.Native.Nat.{ℕ, _<_, _≤_}
+use Prim.Native.Nat.{ℕ, _<_, _≤_, _^_}
 use lib.Dec.{eqb}
-use Rattle.rules.specs.Limits.{ESCROW-LEN, MAX-ESCROWS, LAST-TIME-MS, ESCROW-STATE, IS-OPEN}
+use Rattle.rules.specs.Limits.{MAX-ESCROWS, LAST-TIME-MS, ESCROW-STATE, IS-OPEN}
 use Rattle.rules.specs.Table.{word}
-use Rattle.rules.specs.Ledger.{Ledger, ledger}
+use Rattle.rules.specs.Ledger.{Ledger, ledgerOf}
+use Rattle.rules.specs.declared.Edition.{Edition}
 use Rattle.rules.specs.Settle.{Sweep}
 use Rattle.rules.proofs.Good.{Good}
 use Rattle.moves.specs.Needs.{Small, Ends}
@@ -16,16 +17,18 @@ abbrev pub underWay : ℕ → ℕ → Ledger → Sweep
 underWay room closed L = record { room = room; closed = closed; tables = L }
 
 -- the escrow in row i can end if it is open
-pub record Expires (header wallets escrows : List ℕ) (i : ℕ) : Type 0 where
+pub record Expires (ed : Edition) (header wallets escrows : List ℕ) (i : ℕ) : Type 0 where
+  pub len : ed .escrow < 2 ^ 16
   pub row : i < MAX-ESCROWS
-  pub ends : eqb (word escrows ESCROW-LEN i ESCROW-STATE) IS-OPEN ≡ true → Ends header wallets escrows i
+  pub ends : eqb (word escrows (ed .escrow) i ESCROW-STATE) IS-OPEN ≡ true → Ends ed header wallets escrows i
 
-pub record Sweeping (header wallets escrows receipts : List ℕ) (time : ℕ) : Type 0 where
+pub record Sweeping (ed : Edition) (header wallets escrows receipts : List ℕ) (time : ℕ) : Type 0 where
+  pub len : ed .escrow < 2 ^ 16
   pub small : Small header
-  pub good : Good (ledger header wallets escrows receipts [])
+  pub good : Good (ledgerOf ed header wallets escrows receipts [])
   pub now : time ≤ LAST-TIME-MS
 
 -- the same where the receipts are not lent: there are such
-pub record Expiring (header wallets escrows : List ℕ) (time : ℕ) : Type 0 where
+pub record Expiring (ed : Edition) (header wallets escrows : List ℕ) (time : ℕ) : Type 0 where
   pub receipts : List ℕ
-  pub sweeping : Sweeping header wallets escrows receipts time
+  pub sweeping : Sweeping ed header wallets escrows receipts time

@@ -1,10 +1,10 @@
 // The sweep: due receipts in row order first, then due escrows in row order, until its limit. Its word counts the rows that it closed.
+use rules::Edition;
 use rules::EscrowNumber;
 use rules::ReceiptNumber;
 use rules::limits::ACCEPTANCE_DEADLINE;
 use rules::limits::AUTO_ACCEPT;
 use rules::limits::ESCROW_DEADLINE;
-use rules::limits::ESCROW_LEN;
 use rules::limits::ESCROW_STATE;
 use rules::limits::ESCROWS;
 use rules::limits::EXPIRED;
@@ -15,14 +15,14 @@ use rules::limits::RECEIPT_LEN;
 use rules::limits::RECEIPT_STATE;
 use rules::limits::RECEIPTS;
 ghost use mathlib.Core.Path.{_≡_};
-ghost use mathlib.Core.List.{List, []};
 ghost use mathlib.Core.Bool.{_&&_};
 ghost use Prim.Native.Nat.{ℕ, _+_, _-_, _<_, _≤_, _^_, min};
 ghost use lib.ListN.{getD};
 ghost use lib.Dec.{eqb, ltb};
 ghost use Rattle.rules.specs.Limits.{ESCROWS};
 ghost use Rattle.rules.specs.Table.{word, loop};
-ghost use Rattle.rules.specs.Ledger.{ledger};
+ghost use Rattle.rules.specs.Ledger.{Ledger};
+ghost use Rattle.rules.specs.Moments.{any, _of-edition_, _with-header_, _with-wallets_, _with-escrows_, _with-receipts_};
 ghost use Rattle.rules.specs.Settle.{done, closeDueReceipt, sweepReceipt, sweepEscrow, sweptReceipts, swept};
 ghost use Rattle.rules.specs.Due.{due};
 ghost use Rattle.moves.specs.Needs.{Accepts};
@@ -51,6 +51,7 @@ fn is_due(
 
 // An auto-accept receipt is accepted, any other expires.
 fn close_due_receipt(
+    edition: Edition,
     header: &[u64],
     wallets: &mut [u64],
     escrows: &mut [u64],
@@ -58,12 +59,21 @@ fn close_due_receipt(
     number: ReceiptNumber,
     time: u64,
 )
-    requires { ⌜ (1 ≤ number .0) × Accepts (now header) (now wallets) (now escrows) (now receipts) time (number .0 - 1) ⌝ }
-    ensures { λ x. ⌜ ((j : List ℕ) → ledger (now (header .entry)) (now (wallets .exit)) (now (escrows .exit)) (now (receipts .exit)) j ≡ closeDueReceipt time (number .0 - 1) (ledger (now (header .entry)) (now (wallets .entry)) (now (escrows .entry)) (now (receipts .entry)) j)) ⌝ }
+    requires { ⌜ (1 ≤ number .0) × Accepts edition (now header) (now wallets) (now escrows) (now receipts) time (number .0 - 1) ⌝ }
+    ensures { λ x. ⌜ ((K : Ledger) → let L = any K of-edition edition with-header header with-wallets wallets with-escrows escrows with-receipts receipts in L .exit ≡ closeDueReceipt time (number .0 - 1) (L .entry)) ⌝ }
 {
     let auto = rows::get(receipts, RECEIPT_LEN, (number.0 - 1) as usize, AUTO_ACCEPT);
     if auto == 1 {
-        moves::accept_receipt(header, wallets, escrows, receipts, number, time, NOBODY);
+        moves::accept_receipt(
+            edition,
+            header,
+            wallets,
+            escrows,
+            receipts,
+            number,
+            time,
+            NOBODY,
+        );
         return;
     }
     moves::close_receipt(receipts, number, LAPSED, time, NOBODY);
@@ -71,6 +81,7 @@ fn close_due_receipt(
 
 // One receipt of a sweep that may still close a row: 1 if it was due, else 0.
 fn sweep_receipt(
+    edition: Edition,
     header: &[u64],
     wallets: &mut [u64],
     escrows: &mut [u64],
@@ -78,8 +89,8 @@ fn sweep_receipt(
     number: ReceiptNumber,
     time: u64,
 ) -> u64
-    requires { ⌜ (1 ≤ number .0) × Accepts (now header) (now wallets) (now escrows) (now receipts) time (number .0 - 1) ⌝ }
-    ensures { λ x. ⌜ (x ≤ 1) × ((j : List ℕ) (room closed : ℕ) → 0 < room → underWay (room - x) (closed + x) (ledger (now (header .entry)) (now (wallets .exit)) (now (escrows .exit)) (now (receipts .exit)) j) ≡ sweepReceipt time (number .0 - 1) (underWay room closed (ledger (now (header .entry)) (now (wallets .entry)) (now (escrows .entry)) (now (receipts .entry)) j))) ⌝ }
+    requires { ⌜ (1 ≤ number .0) × Accepts edition (now header) (now wallets) (now escrows) (now receipts) time (number .0 - 1) ⌝ }
+    ensures { λ x. ⌜ (x ≤ 1) × ((K : Ledger) (room closed : ℕ) → let L = any K of-edition edition with-header header with-wallets wallets with-escrows escrows with-receipts receipts in 0 < room → underWay (room - x) (closed + x) (L .exit) ≡ sweepReceipt time (number .0 - 1) (underWay room closed (L .entry))) ⌝ }
 {
     let row = (number.0 - 1) as usize;
     if is_due(
@@ -91,7 +102,7 @@ fn sweep_receipt(
         ACCEPTANCE_DEADLINE,
         time,
     ) {
-        close_due_receipt(header, wallets, escrows, receipts, number, time);
+        close_due_receipt(edition, header, wallets, escrows, receipts, number, time);
         return 1;
     }
     0
@@ -99,26 +110,36 @@ fn sweep_receipt(
 
 // One escrow, likewise; it expires with its credits returned.
 fn sweep_escrow(
+    edition: Edition,
     header: &[u64],
     wallets: &mut [u64],
     escrows: &mut [u64],
     number: EscrowNumber,
     time: u64,
 ) -> u64
-    requires { ⌜ (1 ≤ number .0) × Expires (now header) (now wallets) (now escrows) (number .0 - 1) ⌝ }
-    ensures { λ x. ⌜ (x ≤ 1) × ((r j : List ℕ) (room closed : ℕ) → 0 < room → underWay (room - x) (closed + x) (ledger (now (header .entry)) (now (wallets .exit)) (now (escrows .exit)) r j) ≡ sweepEscrow time (number .0 - 1) (underWay room closed (ledger (now (header .entry)) (now (wallets .entry)) (now (escrows .entry)) r j))) ⌝ }
+    requires { ⌜ (1 ≤ number .0) × Expires edition (now header) (now wallets) (now escrows) (number .0 - 1) ⌝ }
+    ensures { λ x. ⌜ (x ≤ 1) × ((K : Ledger) (room closed : ℕ) → let L = any K of-edition edition with-header header with-wallets wallets with-escrows escrows in 0 < room → underWay (room - x) (closed + x) (L .exit) ≡ sweepEscrow time (number .0 - 1) (underWay room closed (L .entry))) ⌝ }
 {
     let row = (number.0 - 1) as usize;
     if is_due(
         escrows,
-        ESCROW_LEN,
+        edition.escrow,
         row,
         ESCROW_STATE,
         IS_OPEN,
         ESCROW_DEADLINE,
         time,
     ) {
-        moves::end_escrow(header, wallets, escrows, number, EXPIRED, time, NOBODY);
+        moves::end_escrow(
+            edition,
+            header,
+            wallets,
+            escrows,
+            number,
+            EXPIRED,
+            time,
+            NOBODY,
+        );
         return 1;
     }
     0
@@ -126,6 +147,7 @@ fn sweep_escrow(
 
 // All receipts in row order, while there is room: how many were closed.
 fn sweep_receipts(
+    edition: Edition,
     header: &[u64],
     wallets: &mut [u64],
     escrows: &mut [u64],
@@ -133,8 +155,8 @@ fn sweep_receipts(
     time: u64,
     limit: u64,
 ) -> u64
-    requires { ⌜ Sweeping (now header) (now wallets) (now escrows) (now receipts) time ⌝ }
-    ensures { λ x. ⌜ (x ≤ limit) × ((j : List ℕ) → underWay (limit - x) x (ledger (now (header .entry)) (now (wallets .exit)) (now (escrows .exit)) (now (receipts .exit)) j) ≡ sweptReceipts time limit (ledger (now (header .entry)) (now (wallets .entry)) (now (escrows .entry)) (now (receipts .entry)) j)) ⌝ }
+    requires { ⌜ Sweeping edition (now header) (now wallets) (now escrows) (now receipts) time ⌝ }
+    ensures { λ x. ⌜ (x ≤ limit) × ((K : Ledger) → let L = any K of-edition edition with-header header with-wallets wallets with-escrows escrows with-receipts receipts in underWay (limit - x) x (L .exit) ≡ sweptReceipts time limit (L .entry)) ⌝ }
 {
     let written = header[RECEIPTS];
     let mut closed = 0;
@@ -148,6 +170,7 @@ fn sweep_receipts(
         }
         number += 1;
         closed += sweep_receipt(
+            edition,
             header,
             wallets,
             escrows,
@@ -160,14 +183,15 @@ fn sweep_receipts(
 
 // All escrows in row order, while there is room.
 fn sweep_escrows(
+    edition: Edition,
     header: &[u64],
     wallets: &mut [u64],
     escrows: &mut [u64],
     time: u64,
     limit: u64,
 ) -> u64
-    requires { ⌜ Expiring (now header) (now wallets) (now escrows) time ⌝ }
-    ensures { λ x. ⌜ (x ≤ limit) × ((r j : List ℕ) (closed : ℕ) → underWay (limit - x) (closed + x) (ledger (now (header .entry)) (now (wallets .exit)) (now (escrows .exit)) r j) ≡ loop (getD (now (header .entry)) ESCROWS 0) (sweepEscrow time) (underWay limit closed (ledger (now (header .entry)) (now (wallets .entry)) (now (escrows .entry)) r j))) ⌝ }
+    requires { ⌜ Expiring edition (now header) (now wallets) (now escrows) time ⌝ }
+    ensures { λ x. ⌜ (x ≤ limit) × ((K : Ledger) (closed : ℕ) → let L = any K of-edition edition with-header header with-wallets wallets with-escrows escrows in underWay (limit - x) (closed + x) (L .exit) ≡ loop (getD (now (header .entry)) ESCROWS 0) (sweepEscrow time) (underWay limit closed (L .entry))) ⌝ }
 {
     let written = header[ESCROWS];
     let mut closed = 0;
@@ -180,12 +204,20 @@ fn sweep_escrows(
             break closed;
         }
         number += 1;
-        closed += sweep_escrow(header, wallets, escrows, EscrowNumber(number), time);
+        closed += sweep_escrow(
+            edition,
+            header,
+            wallets,
+            escrows,
+            EscrowNumber(number),
+            time,
+        );
     }
 }
 
 // The sweep: how many rows it closed, which is the smaller of its limit and the rows that were due.
 pub fn sweep(
+    edition: Edition,
     header: &[u64],
     wallets: &mut [u64],
     escrows: &mut [u64],
@@ -193,10 +225,10 @@ pub fn sweep(
     time: u64,
     limit: u64,
 ) -> u64
-    requires { ⌜ Sweeping (now header) (now wallets) (now escrows) (now receipts) time ⌝ }
-    ensures { λ x. ⌜ ((j : List ℕ) → done x (ledger (now (header .entry)) (now (wallets .exit)) (now (escrows .exit)) (now (receipts .exit)) j) ≡ done (swept time limit (ledger (now (header .entry)) (now (wallets .entry)) (now (escrows .entry)) (now (receipts .entry)) j) .closed) (swept time limit (ledger (now (header .entry)) (now (wallets .entry)) (now (escrows .entry)) (now (receipts .entry)) j) .tables)) × (x ≡ min limit (due (ledger (now (header .entry)) (now (wallets .entry)) (now (escrows .entry)) (now (receipts .entry)) []) time)) ⌝ }
+    requires { ⌜ Sweeping edition (now header) (now wallets) (now escrows) (now receipts) time ⌝ }
+    ensures { λ x. ⌜ ((K : Ledger) → let L = any K of-edition edition with-header header with-wallets wallets with-escrows escrows with-receipts receipts in (done x (L .exit) ≡ done (swept time limit (L .entry) .closed) (swept time limit (L .entry) .tables)) × (x ≡ min limit (due (L .entry) time))) ⌝ }
 {
-    let closed = sweep_receipts(header, wallets, escrows, receipts, time, limit);
-    let expired = sweep_escrows(header, wallets, escrows, time, limit - closed);
+    let closed = sweep_receipts(edition, header, wallets, escrows, receipts, time, limit);
+    let expired = sweep_escrows(edition, header, wallets, escrows, time, limit - closed);
     closed + expired
 }

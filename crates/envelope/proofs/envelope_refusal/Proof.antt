@@ -54,7 +54,7 @@ choose-requires-8 c κs = search needs
 returns : tie.Need-returns
 returns c =
     let p = c .before .before .before .before .before .before .before .before .before .before .before .before .before .before .before .before .before .before .before .before .before .before .before .before .before .before .before .before .pre in
-    λ w e r. refusal-by _ w e r _ _ _ _ _ _ _ _ _ _ _
+    λ K. refusal-by (K .edition) _ (K .wallets) (K .escrows) (K .receipts) _ _ _ _ _ _ _ _ _ _ _
     (p .2) (p .3)
     (c .before .before .before .before .before .before .before .before .before .before .before .before .before .before .before .before .before .before .before .before .before .before .seen .ensures)
     (c .before .before .before .before .before .before .before .choose .ensures)

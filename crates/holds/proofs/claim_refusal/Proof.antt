@@ -90,7 +90,7 @@ choose-requires-12 c κs = search needs
 returns : tie.Need-returns
 returns c =
     let read = c .before .before .before .before .before .before .before .before .before .before .before .before .before .before .before .before .before .before .before .before .before .before .before .before .before .before in
-    claim-by _ _ _ _ _ _ _ _ _ _ _ _ _ _ _ _ _ _ _ _ _ _ _ _ _
+    claim-by _ _ _ _ _ _ _ _ _ _ _ _ _ _ _ _ _ _ _ _ _ _ _ _ _ _
     (read .before .before .before .before .before .before .before .before .before .before .before .before .before .before .before .before .pre .4)
     (read .before .before .before .before .before .before .find-row .ensures)
     (read .before .before .before .before .before .find-row2 .ensures)

@@ -43,7 +43,7 @@ choose-requires-4 c κs = search needs
 returns : tie.Need-returns
 returns c =
     let read = c .before .before .before .before .before .before .before .before .before in
-    λ w r. closing-by _ w _ r _ _ _ _ _ _ _ _ _ _
+    λ K. closing-by _ _ (K .wallets) _ (K .receipts) _ _ _ _ _ _ _ _ _ _
     (read .before .before .before .before .before .before .before .before .before .pre .2)
     (read .before .before .before .row-of .ensures)
     (read .before .before .get .ensures)

@@ -43,7 +43,7 @@ choose-requires-5 c κs = search needs
 returns : tie.Need-returns
 returns c =
     let read = c .before .before .before .before .before .before .before .before .before .before in
-    λ w e. reply-by _ w e _ _ _ _ _ _ _ _ _ _ _
+    λ K. reply-by (K .edition) _ (K .wallets) (K .escrows) _ _ _ _ _ _ _ _ _ _ _
     (read .before .before .before .before .before .before .before .before .pre .2)
     (read .before .before .row-of .ensures)
     (read .before .get .ensures)

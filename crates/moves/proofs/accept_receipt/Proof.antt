@@ -17,7 +17,7 @@ same-length : tie.Need-same-length
 same-length c = search needs
 
 returns : tie.Need-returns
-returns c = λ j. accepted-plain _ _ _ _ j _ _ _ _ _ (c .before .before .before .before .before .get .ensures) (c .before .before .before .close-receipt .ensures) (c .if1 .taken)
+returns c = λ K. accepted-plain K _ _ _ _ _ _ _ _ _ _ (c .before .before .before .before .before .get .ensures) (c .before .before .before .close-receipt .ensures) (c .if1 .taken)
 
 sub-is-releasable : tie.Need-sub-is-releasable
 sub-is-releasable c = search needs
@@ -26,7 +26,7 @@ is-releasable-requires : tie.Need-is-releasable-requires
 is-releasable-requires c κs = search needs
 
 end-escrow-requires : tie.Need-end-escrow-requires
-end-escrow-requires c κs = can-end _ _ _ _ _ _ _ _ (c .before .before .before .before .before .before .before .before .before .before .before .before .before .before .before .before .before .pre .1) (c .before .before .before .before .before .before .before .before .before .before .get .ensures) (c .before .before .before .before .before .if1 .left) (c .before .before .before .is-releasable .ensures) (c .before .before .if2 .taken)
+end-escrow-requires c κs = can-end _ _ _ _ _ _ _ _ _ (c .before .before .before .before .before .before .before .before .before .before .before .before .before .before .before .before .before .pre .1) (c .before .before .before .before .before .before .before .before .before .before .get .ensures) (c .before .before .before .before .before .if1 .left) (c .before .before .before .is-releasable .ensures) (c .before .before .if2 .taken)
 
 same-length-2 : tie.Need-same-length-2
 same-length-2 c = search needs
@@ -38,7 +38,7 @@ same-length-4 : tie.Need-same-length-4
 same-length-4 c = search needs
 
 returns-2 : tie.Need-returns-2
-returns-2 c = λ j. accepted-released _ _ _ _ j _ _ _ _ _ _ _ _ (c .before .before .before .before .before .before .before .before .before .before .before .before .before .before .before .get .ensures) (c .before .before .before .before .before .before .before .before .before .before .before .before .before .close-receipt .ensures) (c .before .before .before .before .before .before .before .before .before .before .if1 .left) (c .before .before .before .before .before .before .before .before .is-releasable .ensures) (c .before .before .before .before .before .before .before .if2 .taken) (c .before .before .before .before .end-escrow .ensures)
+returns-2 c = λ K. accepted-released K _ _ _ _ _ _ _ _ _ _ _ _ _ (c .before .before .before .before .before .before .before .before .before .before .before .before .before .before .before .get .ensures) (c .before .before .before .before .before .before .before .before .before .before .before .before .before .close-receipt .ensures) (c .before .before .before .before .before .before .before .before .before .before .if1 .left) (c .before .before .before .before .before .before .before .before .is-releasable .ensures) (c .before .before .before .before .before .before .before .if2 .taken) (c .before .before .before .before .end-escrow .ensures)
 
 set-requires : tie.Need-set-requires
 set-requires c κs = search needs
@@ -50,7 +50,7 @@ same-length-6 : tie.Need-same-length-6
 same-length-6 c = search needs
 
 returns-3 : tie.Need-returns-3
-returns-3 c = λ j. accepted-impossible _ _ _ _ j _ _ _ _ _ _ _ (c .before .before .before .before .before .before .before .before .before .before .before .before .get .ensures) (c .before .before .before .before .before .before .before .before .before .before .close-receipt .ensures) (c .before .before .before .before .before .before .before .if1 .left) (c .before .before .before .before .before .is-releasable .ensures) (c .before .before .before .before .if2 .left) (c .before .before .set .ensures)
+returns-3 c = λ K. accepted-impossible K _ _ _ _ _ _ _ _ _ _ _ _ (c .before .before .before .before .before .before .before .before .before .before .before .before .get .ensures) (c .before .before .before .before .before .before .before .before .before .before .close-receipt .ensures) (c .before .before .before .before .before .before .before .if1 .left) (c .before .before .before .before .before .is-releasable .ensures) (c .before .before .before .before .if2 .left) (c .before .before .set .ensures)
 
 pub accept-receipt-spec : {M : Type 1} → statement M
 accept-receipt-spec =

@@ -18,7 +18,7 @@ same-length c = search needs
 
 returns : tie.Need-returns
 unfolding putEscrow
-returns c = λ h w r j. rw (c .before .before .set3 .ensures, c .before .before .before .before .before .before .set2 .ensures, c .before .before .before .before .before .before .before .before .before .before .set .ensures)
+returns c = λ K. rw (c .before .before .set3 .ensures, c .before .before .before .before .before .before .set2 .ensures, c .before .before .before .before .before .before .before .before .before .before .set .ensures)
 
 pub close-escrow-spec : {M : Type 1} → statement M
 close-escrow-spec =

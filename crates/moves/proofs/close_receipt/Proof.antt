@@ -22,7 +22,7 @@ same-length c = search needs
 
 returns : tie.Need-returns
 unfolding closeReceipt putReceipt
-returns c = λ h w e j. rw (c .before .before .set3 .ensures, c .before .before .before .before .before .before .set2 .ensures, c .before .before .before .before .before .before .before .before .before .before .set .ensures)
+returns c = λ K. rw (c .before .before .set3 .ensures, c .before .before .before .before .before .before .set2 .ensures, c .before .before .before .before .before .before .before .before .before .before .set .ensures)
 
 pub close-receipt-spec : {M : Type 1} → statement M
 close-receipt-spec =

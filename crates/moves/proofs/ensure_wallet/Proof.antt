@@ -8,7 +8,7 @@ slice-read-written : tie.Need-slice-read-written
 slice-read-written c = search needs
 
 returns : tie.Need-returns
-returns c = λ e r j. ensured-found _ _ e r j _ _ (c .before .before .before .before .pre .1) (c .if1 .taken)
+returns c = λ K. ensured-found K _ _ _ _ (c .before .before .before .before .pre .1) (c .if1 .taken)
 
 slice-aggregate-append : tie.Need-slice-aggregate-append
 slice-aggregate-append c = search needs
@@ -23,7 +23,7 @@ same-length-2 : tie.Need-same-length-2
 same-length-2 c = search needs
 
 returns-2 : tie.Need-returns-2
-returns-2 c = λ e r j. ensured-new _ _ _ _ e r j _ _ (c .before .before .before .before .before .before .before .before .before .before .before .before .pre .1) (c .before .before .before .before .before .before .before .before .if1 .left) (c .before .before .before .before .append .ensures .1) (c .before .before .before .before .append .ensures .2)
+returns-2 c = λ K. ensured-new K _ _ _ _ _ _ (c .before .before .before .before .before .before .before .before .before .before .before .before .pre .1) (c .before .before .before .before .before .before .before .before .if1 .left) (c .before .before .before .before .append .ensures .1) (c .before .before .before .before .append .ensures .2)
 
 pub ensure-wallet-spec : {M : Type 1} → statement M
 ensure-wallet-spec =

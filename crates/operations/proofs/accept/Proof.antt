@@ -18,7 +18,7 @@ same-length-3 c = search needs
 
 returns : tie.Need-returns
 unfolding accept
-returns c = λ j. c .before .before .before .before .before .before .accept-receipt .ensures j
+returns c = c .before .before .before .before .before .before .accept-receipt .ensures
 
 pub accept-spec : {M : Type 1} → statement M
 accept-spec =

@@ -21,7 +21,7 @@ same-length : tie.Need-same-length
 same-length c = search needs
 
 returns : tie.Need-returns
-returns c = λ e r j. capped _ _ e r j _ _ _ _ (c .before .before .before .before .before .before .before .before .find-row .ensures) (c .before .before .before .before .before .before .set .ensures) (c .before .before .set2 .ensures)
+returns c = λ K. capped K _ _ _ _ _ _ (c .before .before .before .before .before .before .before .before .find-row .ensures) (c .before .before .before .before .before .before .set .ensures) (c .before .before .set2 .ensures)
 
 pub caps-spec : {M : Type 1} → statement M
 caps-spec =

@@ -13,7 +13,7 @@ same-length c = search needs
 
 returns : tie.Need-returns
 unfolding dispute
-returns c = λ h w e j. ap (done 0) (c .before .before .close-receipt .ensures h w e j)
+returns c = λ K. ap (done 0) (c .before .before .close-receipt .ensures K)
 
 pub dispute-spec : {M : Type 1} → statement M
 dispute-spec = tie.close (tie.spec close-receipt-requires same-length returns)

@@ -15,7 +15,7 @@ same-length : tie.Need-same-length
 same-length c = search needs
 
 returns : tie.Need-returns
-returns c = λ e r j. system-frozen _ _ e r j _ _ (c .before .before .auto-or-freeze .ensures) (c .if1 .taken)
+returns c = λ K. system-frozen K _ _ _ _ (c .before .before .auto-or-freeze .ensures) (c .if1 .taken)
 
 slice-read-find-row : tie.Need-slice-read-find-row
 slice-read-find-row c = search needs
@@ -30,7 +30,7 @@ same-length-2 : tie.Need-same-length-2
 same-length-2 c = search needs
 
 returns-2 : tie.Need-returns-2
-returns-2 c = λ e r j. wallet-frozen _ _ e r j _ _ _ _ (c .before .before .before .before .before .before .before .before .before .auto-or-freeze .ensures) (c .before .before .before .before .before .before .before .if1 .left) (c .before .before .before .before .find-row .ensures) (c .before .before .set .ensures)
+returns-2 c = λ K. wallet-frozen K _ _ _ _ _ _ (c .before .before .before .before .before .before .before .before .before .auto-or-freeze .ensures) (c .before .before .before .before .before .before .before .if1 .left) (c .before .before .before .before .find-row .ensures) (c .before .before .set .ensures)
 
 pub freeze-spec : {M : Type 1} → statement M
 freeze-spec =

@@ -16,7 +16,7 @@ same-length-2 c = search needs
 
 returns : tie.Need-returns
 unfolding release
-returns c = λ r j. ap (done 0) (c .before .before .before .before .end-escrow .ensures r j)
+returns c = λ K. ap (done 0) (c .before .before .before .before .end-escrow .ensures K)
 
 pub release-spec : {M : Type 1} → statement M
 release-spec = tie.close (tie.spec end-escrow-requires same-length same-length-2 returns)

@@ -42,7 +42,7 @@ choose-requires-5 c κs = search needs
 returns : tie.Need-returns
 returns c =
     let read = c .before .before .before .before .before .before .before .before in
-    λ e r. grant-by _ _ e r _ _ _ _ _ _ _ _ _
+    λ K. grant-by (K .edition) _ _ (K .escrows) (K .receipts) _ _ _ _ _ _ _ _ _
     (read .before .before .before .before .before .before .before .before .pre .2)
     (read .before .find-row .ensures)
     (read .exceeds .ensures)

@@ -49,6 +49,9 @@ exceeds-requires c κs = search needs
 add-deadline-exceeds-max : tie.Need-add-deadline-exceeds-max
 add-deadline-exceeds-max c = omega (arith, c .before .before .before .before .before .before .before .before .before .before .before .before .before .before .before .before .before .before .before .before .before .before .before .before .pre .4)
 
+div-escrow-table-full : tie.Need-div-escrow-table-full
+div-escrow-table-full c = omega (arith, c .before .before .before .before .before .before .before .before .before .before .before .before .before .before .before .before .before .before .before .before .before .before .before .before .before .before .pre .6 .escrow)
+
 choose-requires : tie.Need-choose-requires
 choose-requires c κs = search needs
 
@@ -87,8 +90,8 @@ choose-requires-12 c κs = search needs
 
 returns : tie.Need-returns
 returns c =
-    let read = c .before .before .before .before .before .before .before .before .before .before .before .before .before .before .before .before .before .before .before .before .before .before in
-    λ r. paying-by _ _ _ r _ _ _ _ _ _ _ _ _ _ _ _ _ _ _ _ _ _ _ _ _ _
+    let read = c .before .before .before .before .before .before .before .before .before .before .before .before .before .before .before .before .before .before .before .before .before .before .before in
+    λ K. paying-by _ _ _ _ (K .receipts) _ _ _ _ _ _ _ _ _ _ _ _ _ _ _ _ _ _ _ _ _ _
     (read .before .before .before .before .before .before .before .before .before .before .before .before .before .before .before .pre .5)
     (read .before .before .before .before .before .before .before .find-row .ensures)
     (read .before .before .before .before .before .before .find-row2 .ensures)
@@ -127,6 +130,7 @@ paying-refusal-spec =
     counted-requires
     exceeds-requires
     add-deadline-exceeds-max
+    div-escrow-table-full
     choose-requires
     choose-requires-2
     choose-requires-3

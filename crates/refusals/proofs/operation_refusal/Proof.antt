@@ -1,7 +1,9 @@
-use Prim.Native.Nat.{_≤_}
 -- `operation_refusal` meets its contract: each family gets what it requires from the ledger and the record, and answers for its operations.
+use mathlib.Core.List.{[]}
+use Prim.Native.Nat.{_≤_}
 use native.Mathlib.Omega.{arith}
 use Rattle.rules.specs.Limits.{TRANSFER, RELEASE, ACCEPT}
+use Rattle.rules.specs.Ledger.{ledger, ledgerOf}
 use Rattle.refusals.proofs.Given.{header-there, wallets-few, escrows-few, receipts-few, wallets-fit, entries, op-low, op-high, now-time, issued-time}
 use Rattle.refusals.proofs.Order.{either, no-more}
 use borrow.Author.Needs.{needs}
@@ -26,7 +28,7 @@ grant-refusal-requires c κs =
 claim-refusal-requires : tie.Need-claim-refusal-requires
 claim-refusal-requires c κs =
     let start = c .before .before .before .before .before .before in
-    (header-there (start .pre), escrows-few (start .pre), wallets-fit (start .pre), issued-time (start .pre), c .match .keys2)
+    (header-there (start .pre), escrows-few (start .pre), wallets-fit (start .pre), issued-time (start .pre), c .match .keys2, start .pre .sized)
 
 sweep-refusal-requires : tie.Need-sweep-refusal-requires
 sweep-refusal-requires c κs = search needs
@@ -45,12 +47,12 @@ paying-refusal-requires : tie.Need-paying-refusal-requires
 paying-refusal-requires c κs =
     let start = c .before .before .before .before .before .before .before .before in
     let low : TRANSFER ≤ start .args .s .op = omega (arith, c .before .before .match .rest .0 .0 .0 .0 .1) in
-    (header-there (start .pre), wallets-few (start .pre), wallets-fit (start .pre), entries (start .pre), now-time (start .pre), either TRANSFER _ low (c .if2 .taken))
+    (header-there (start .pre), wallets-few (start .pre), wallets-fit (start .pre), entries (start .pre), now-time (start .pre), either TRANSFER _ low (c .if2 .taken), start .pre .sized)
 
 closing-refusal-requires : tie.Need-closing-refusal-requires
 closing-refusal-requires c κs =
     let start = c .before .before .before .before .before .before .before .before .before in
-    (header-there (start .pre), escrows-few (start .pre), either RELEASE _ (c .before .if2 .left) (c .if3 .taken))
+    (header-there (start .pre), escrows-few (start .pre), either RELEASE _ (c .before .if2 .left) (c .if3 .taken), start .pre .sized)
 
 reply-refusal-requires : tie.Need-reply-refusal-requires
 reply-refusal-requires c κs =
@@ -59,7 +61,7 @@ reply-refusal-requires c κs =
     (header-there (start .pre), receipts-few (start .pre), either ACCEPT _ low (c .if4 .taken))
 
 returns : tie.Need-returns
-returns c = c .grant-refusal .ensures _ _
+returns c = c .grant-refusal .ensures (ledgerOf _ [] [] _ _ [])
 
 returns-2 : tie.Need-returns-2
 returns-2 c = c .claim-refusal .ensures
@@ -68,19 +70,19 @@ returns-3 : tie.Need-returns-3
 returns-3 c = c .sweep-refusal .ensures _
 
 returns-4 : tie.Need-returns-4
-returns-4 c = c .freeze-refusal .ensures _ _
+returns-4 c = c .freeze-refusal .ensures (ledgerOf _ [] [] _ _ [])
 
 returns-5 : tie.Need-returns-5
-returns-5 c = c .caps-refusal .ensures _ _
+returns-5 c = c .caps-refusal .ensures (ledgerOf _ [] [] _ _ [])
 
 returns-6 : tie.Need-returns-6
-returns-6 c = c .paying-refusal .ensures _
+returns-6 c = c .paying-refusal .ensures (ledger [] [] [] _ [])
 
 returns-7 : tie.Need-returns-7
-returns-7 c = c .closing-refusal .ensures _ _
+returns-7 c = c .closing-refusal .ensures (ledger [] _ [] _ [])
 
 returns-8 : tie.Need-returns-8
-returns-8 c = c .reply-refusal .ensures _ _
+returns-8 c = c .reply-refusal .ensures (ledgerOf _ [] _ _ [] [])
 
 returns-9 : tie.Need-returns-9
 returns-9 c =

@@ -5,7 +5,7 @@ use Rattle.settling.proofs.enter.Statement.{statement}
 use Rattle.settling.proofs.enter.Tie as tie
 
 returns : tie.Need-returns
-returns c = λ w e r. entered-none _ w e r _ _ _ (c .if1 .taken)
+returns c = λ K. entered-none K _ _ _ _ (c .if1 .taken)
 
 cast-t12 : tie.Need-cast-t12
 cast-t12 c = search needs
@@ -23,7 +23,7 @@ same-length-2 : tie.Need-same-length-2
 same-length-2 c = search needs
 
 returns-2 : tie.Need-returns-2
-returns-2 c = λ w e r. entered _ w e r _ _ _ _ _ (c .before .before .before .before .before .before .before .before .before .if1 .left) (c .before .before .before .before .append .ensures .1) (c .before .before .before .before .append .ensures .2)
+returns-2 c = λ K. entered K _ _ _ _ _ _ (c .before .before .before .before .before .before .before .before .before .if1 .left) (c .before .before .before .before .append .ensures .1) (c .before .before .before .before .append .ensures .2)
 
 pub enter-spec : {M : Type 1} → statement M
 enter-spec =

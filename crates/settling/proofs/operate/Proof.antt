@@ -1,4 +1,6 @@
 -- `settling::operate` meets its contract: each arm by its own contract, what that needs out of soundness and the refusals.
+use mathlib.Core.List.{[]}
+use Rattle.rules.specs.Ledger.{ledgerOf, setReceipts}
 use Rattle.rules.specs.Settle.{sweep}
 use Rattle.rules.proofs.Calls.{by-op}
 use Rattle.rules.specs.Limits.{GRANT, TRANSFER, OPEN, RELEASE, REFUND, CLAIM, ACCEPT, DISPUTE, SWEEP, FREEZE, CAPS}
@@ -9,37 +11,37 @@ use Rattle.settling.proofs.operate.Statement.{statement}
 use Rattle.settling.proofs.operate.Tie as tie
 
 grant-requires : tie.Need-grant-requires
-grant-requires c κs = granting _ _ _ _ _ _ (c .before .before .before .before .before .before .before .pre .settles) (c .before .before .match .keys1)
+grant-requires c κs = granting _ _ _ _ _ _ _ (c .before .before .before .before .before .before .before .pre .settles) (c .before .before .match .keys1)
 
 transfer-requires : tie.Need-transfer-requires
-transfer-requires c κs = transferring _ _ _ _ _ _ (c .before .before .before .before .before .before .before .pre .settles) (c .before .before .match .keys2)
+transfer-requires c κs = transferring _ _ _ _ _ _ _ (c .before .before .before .before .before .before .before .pre .settles) (c .before .before .match .keys2)
 
 open-escrow-requires : tie.Need-open-escrow-requires
-open-escrow-requires c κs = opening _ _ _ _ _ _ (c .before .before .before .before .before .before .before .before .pre .settles) (c .before .before .before .match .keys3)
+open-escrow-requires c κs = opening _ _ _ _ _ _ _ (c .before .before .before .before .before .before .before .before .pre .settles) (c .before .before .before .match .keys3)
 
 release-requires : tie.Need-release-requires
-release-requires c κs = releasing _ _ _ _ _ _ (c .before .before .before .before .before .before .before .before .pre .settles) (c .before .before .before .match .keys4)
+release-requires c κs = releasing _ _ _ _ _ _ _ (c .before .before .before .before .before .before .before .before .pre .settles) (c .before .before .before .match .keys4)
 
 refund-requires : tie.Need-refund-requires
-refund-requires c κs = refunding _ _ _ _ _ _ (c .before .before .before .before .before .before .before .before .pre .settles) (c .before .before .before .match .keys5)
+refund-requires c κs = refunding _ _ _ _ _ _ _ (c .before .before .before .before .before .before .before .before .pre .settles) (c .before .before .before .match .keys5)
 
 claim-requires : tie.Need-claim-requires
-claim-requires c κs = claiming _ _ _ _ _ _ (c .before .before .before .before .before .before .before .pre .settles)
+claim-requires c κs = claiming _ _ _ _ _ _ _ (c .before .before .before .before .before .before .before .pre .settles)
 
 accept-requires : tie.Need-accept-requires
-accept-requires c κs = accepting _ _ _ _ _ _ (c .before .before .before .before .before .before .before .before .before .pre .settles) (c .before .before .before .before .match .keys7)
+accept-requires c κs = accepting _ _ _ _ _ _ _ (c .before .before .before .before .before .before .before .before .before .pre .settles) (c .before .before .before .before .match .keys7)
 
 dispute-requires : tie.Need-dispute-requires
-dispute-requires c κs = disputing _ _ _ _ _ _ (c .before .before .before .before .before .before .pre .settles) (c .before .match .keys8)
+dispute-requires c κs = disputing _ _ _ _ _ _ _ (c .before .before .before .before .before .before .pre .settles) (c .before .match .keys8)
 
 sweep-requires : tie.Need-sweep-requires
-sweep-requires c κs = swept _ _ _ _ _ _ (c .before .before .before .before .before .before .before .before .before .pre .settles)
+sweep-requires c κs = swept _ _ _ _ _ _ _ (c .before .before .before .before .before .before .before .before .before .pre .settles)
 
 freeze-requires : tie.Need-freeze-requires
-freeze-requires c κs = counted _ _ _ _ _ _ (c .before .before .before .before .before .before .before .pre .settles)
+freeze-requires c κs = counted _ _ _ _ _ _ _ (c .before .before .before .before .before .before .before .pre .settles)
 
 caps-requires : tie.Need-caps-requires
-caps-requires c κs = counted _ _ _ _ _ _ (c .before .before .before .before .before .before .before .pre .settles)
+caps-requires c κs = counted _ _ _ _ _ _ _ (c .before .before .before .before .before .before .before .pre .settles)
 
 same-length : tie.Need-same-length
 same-length c = search needs
@@ -48,7 +50,7 @@ same-length-2 : tie.Need-same-length-2
 same-length-2 c = search needs
 
 returns : tie.Need-returns
-returns c = λ j. operated GRANT _ _ _ (c .before .before .before .before .before .before .before .match .keys1) (c .before .before .before .before .grant .ensures _ _ j)
+returns c = λ K. operated GRANT _ _ _ (c .before .before .before .before .before .before .before .match .keys1) (c .before .before .before .before .grant .ensures (ledgerOf _ [] [] _ _ _))
 
 same-length-3 : tie.Need-same-length-3
 same-length-3 c = search needs
@@ -57,7 +59,7 @@ same-length-4 : tie.Need-same-length-4
 same-length-4 c = search needs
 
 returns-2 : tie.Need-returns-2
-returns-2 c = λ j. operated TRANSFER _ _ _ (c .before .before .before .before .before .before .before .match .keys2) (c .before .before .before .before .transfer .ensures _ _ j)
+returns-2 c = λ K. operated TRANSFER _ _ _ (c .before .before .before .before .before .before .before .match .keys2) (c .before .before .before .before .transfer .ensures (ledgerOf _ [] [] _ _ _))
 
 same-length-5 : tie.Need-same-length-5
 same-length-5 c = search needs
@@ -69,7 +71,7 @@ same-length-7 : tie.Need-same-length-7
 same-length-7 c = search needs
 
 returns-3 : tie.Need-returns-3
-returns-3 c = λ j. operated OPEN _ _ _ (c .before .before .before .before .before .before .before .before .before .before .match .keys3) (c .before .before .before .before .before .before .open-escrow .ensures _ j)
+returns-3 c = λ K. operated OPEN _ _ _ (c .before .before .before .before .before .before .before .before .before .before .match .keys3) (c .before .before .before .before .before .before .open-escrow .ensures (setReceipts _ K))
 
 same-length-8 : tie.Need-same-length-8
 same-length-8 c = search needs
@@ -81,7 +83,7 @@ same-length-10 : tie.Need-same-length-10
 same-length-10 c = search needs
 
 returns-4 : tie.Need-returns-4
-returns-4 c = λ j. operated RELEASE _ _ _ (c .before .before .before .before .before .before .before .before .match .keys4) (c .before .before .before .before .release .ensures _ j)
+returns-4 c = λ K. operated RELEASE _ _ _ (c .before .before .before .before .before .before .before .before .match .keys4) (c .before .before .before .before .release .ensures (setReceipts _ K))
 
 same-length-11 : tie.Need-same-length-11
 same-length-11 c = search needs
@@ -93,7 +95,7 @@ same-length-13 : tie.Need-same-length-13
 same-length-13 c = search needs
 
 returns-5 : tie.Need-returns-5
-returns-5 c = λ j. operated REFUND _ _ _ (c .before .before .before .before .before .before .before .before .match .keys5) (c .before .before .before .before .refund .ensures _ j)
+returns-5 c = λ K. operated REFUND _ _ _ (c .before .before .before .before .before .before .before .before .match .keys5) (c .before .before .before .before .refund .ensures (setReceipts _ K))
 
 same-length-14 : tie.Need-same-length-14
 same-length-14 c = search needs
@@ -102,7 +104,7 @@ same-length-15 : tie.Need-same-length-15
 same-length-15 c = search needs
 
 returns-6 : tie.Need-returns-6
-returns-6 c = λ j. operated CLAIM _ _ _ (c .before .before .before .before .before .before .before .match .keys6) (c .before .before .before .before .claim .ensures _ _ j)
+returns-6 c = λ K. operated CLAIM _ _ _ (c .before .before .before .before .before .before .before .match .keys6) (c .before .before .before .before .claim .ensures (ledgerOf _ [] _ _ [] _))
 
 same-length-16 : tie.Need-same-length-16
 same-length-16 c = search needs
@@ -117,13 +119,13 @@ same-length-19 : tie.Need-same-length-19
 same-length-19 c = search needs
 
 returns-7 : tie.Need-returns-7
-returns-7 c = λ j. operated ACCEPT _ _ _ (c .before .before .before .before .before .before .before .before .before .before .before .match .keys7) (c .before .before .before .before .before .before .accept .ensures j)
+returns-7 c = λ K. operated ACCEPT _ _ _ (c .before .before .before .before .before .before .before .before .before .before .before .match .keys7) (c .before .before .before .before .before .before .accept .ensures K)
 
 same-length-20 : tie.Need-same-length-20
 same-length-20 c = search needs
 
 returns-8 : tie.Need-returns-8
-returns-8 c = λ j. operated DISPUTE _ _ _ (c .before .before .before .before .match .keys8) (c .before .before .dispute .ensures _ _ _ j)
+returns-8 c = λ K. operated DISPUTE _ _ _ (c .before .before .before .before .match .keys8) (c .before .before .dispute .ensures (ledgerOf _ _ _ _ [] _))
 
 same-length-21 : tie.Need-same-length-21
 same-length-21 c = search needs
@@ -139,7 +141,7 @@ same-length-24 c = search needs
 
 returns-9 : tie.Need-returns-9
 unfolding sweep
-returns-9 c = λ j. operated SWEEP _ _ _ (c .before .before .before .before .before .before .before .before .before .before .before .match .keys9) (c .before .before .before .before .before .before .sweep .ensures .0 j)
+returns-9 c = λ K. operated SWEEP _ _ _ (c .before .before .before .before .before .before .before .before .before .before .before .match .keys9) (c .before .before .before .before .before .before .sweep .ensures K .0)
 
 same-length-25 : tie.Need-same-length-25
 same-length-25 c = search needs
@@ -148,7 +150,7 @@ same-length-26 : tie.Need-same-length-26
 same-length-26 c = search needs
 
 returns-10 : tie.Need-returns-10
-returns-10 c = λ j. operated FREEZE _ _ _ (c .before .before .before .before .before .before .before .match .keys10) (c .before .before .before .before .freeze .ensures _ _ j)
+returns-10 c = λ K. operated FREEZE _ _ _ (c .before .before .before .before .before .before .before .match .keys10) (c .before .before .before .before .freeze .ensures (ledgerOf _ [] [] _ _ _))
 
 same-length-27 : tie.Need-same-length-27
 same-length-27 c = search needs
@@ -157,11 +159,11 @@ same-length-28 : tie.Need-same-length-28
 same-length-28 c = search needs
 
 returns-11 : tie.Need-returns-11
-returns-11 c = λ j. operated CAPS _ _ _ (c .before .before .before .before .before .match .keys11) (c .before .before .caps .ensures _ _ j)
+returns-11 c = λ K. operated CAPS _ _ _ (c .before .before .before .before .before .match .keys11) (c .before .before .caps .ensures (ledgerOf _ [] [] _ _ _))
 
 returns-12 : tie.Need-returns-12
 returns-12 c =
-    let f = formed _ _ _ _ _ _ (c .before .before .before .before .before .pre .settles) in
+    let f = formed _ _ _ _ _ _ _ (c .before .before .before .before .before .pre .settles) in
     absurd (by-op (λ _. ⊥) _ (f .low) (f .high) (c .match .rest .0 .0 .0 .0 .0 .0 .0 .0 .0 .0 .1) (c .match .rest .0 .0 .0 .0 .0 .0 .0 .0 .0 .1) (c .match .rest .0 .0 .0 .0 .0 .0 .0 .0 .1) (c .match .rest .0 .0 .0 .0 .0 .0 .0 .1) (c .match .rest .0 .0 .0 .0 .0 .0 .1) (c .match .rest .0 .0 .0 .0 .0 .1) (c .match .rest .0 .0 .0 .0 .1) (c .match .rest .0 .0 .0 .1) (c .match .rest .0 .0 .1) (c .match .rest .0 .1) (c .match .rest .1))
 
 pub operate-spec : {M : Type 1} → statement M

@@ -3,75 +3,81 @@ use native.Mathlib.Omega.{arith}
 use mathlib.Core.Path.{_≡_, sym, _∙_}
 use mathlib.Core.Bool.{true}
 use borrow.Author.Tests.{not-false}
-use Rattle.rules.specs.Ledger.{ledger, walletCount, escrowCount}
+use Rattle.rules.specs.Ledger.{Ledger, walletCount, escrowCount}
+use Rattle.rules.specs.Moments.{tables}
 use Rattle.rules.specs.Sound.{headerTests}
 use Rattle.rules.specs.Table.{all}
 use Rattle.sound.specs.Parts.{Tables}
-use Rattle.sound.proofs.Counted.{header-length, escrow-row, tables, receipt-rows, entry-rows}
+use Rattle.sound.proofs.Counted.{header-length, escrow-row, rows-within, receipt-rows, entry-rows}
 use Rattle.sound.proofs.Whole.{no-header, no-wallets, no-total, no-parties, no-receipts, the-entries}
 use Rattle.sound.proofs.is_sound.Statement.{statement}
 use Rattle.sound.proofs.is_sound.Tie as tie
 
--- where the header is right
-right : (c : tie.Else1) → all (headerTests (ledger (c .before .before .before .before .before .before .before .args .header .now) (c .before .before .before .before .before .before .before .args .wallets .now) (c .before .before .before .before .before .before .before .args .escrows .now) (c .before .before .before .before .before .before .before .args .receipts .now) (c .before .before .before .before .before .before .before .args .journal .now))) ≡ true
+-- the tables that it is lent, and that the header is right
+abbrev start : tie.Else1 → Ledger
+start c =
+    let a = c .before .before .before .before .before .before .before .args in
+    tables (a .edition) (a .header) (a .wallets) (a .escrows) (a .receipts) (a .journal)
+
+right : (c : tie.Else1) → all (headerTests (start c)) ≡ true
 right c = sym (c .before .header-right .ensures) ∙ not-false _ (c .if1 .left)
 
 within : (c : tie.Else1)
-    → Tables (c .before .before .before .before .before .before .before .args .wallets .now) (walletCount (ledger (c .before .before .before .before .before .before .before .args .header .now) (c .before .before .before .before .before .before .before .args .wallets .now) (c .before .before .before .before .before .before .before .args .escrows .now) (c .before .before .before .before .before .before .before .args .receipts .now) (c .before .before .before .before .before .before .before .args .journal .now))) (c .before .before .before .before .before .before .before .args .escrows .now) (escrowCount (ledger (c .before .before .before .before .before .before .before .args .header .now) (c .before .before .before .before .before .before .before .args .wallets .now) (c .before .before .before .before .before .before .before .args .escrows .now) (c .before .before .before .before .before .before .before .args .receipts .now) (c .before .before .before .before .before .before .before .args .journal .now)))
-within c = tables _ _ _ _ _ (c .before .before .before .before .before .before .before .pre) (right c)
+    → Tables (start c .edition .escrow) (start c .wallets) (walletCount (start c)) (start c .escrows) (escrowCount (start c))
+within c = rows-within _ _ _ _ _ _ (c .before .before .before .before .before .before .before .pre) (right c)
 
 header-right-requires : tie.Need-header-right-requires
-header-right-requires c κs = header-length _ _ _ _ _ (c .before .before .before .before .before .pre)
+header-right-requires c κs = (header-length _ _ _ _ _ _ (c .before .before .before .before .before .pre), c .before .before .before .before .before .pre .1 .escrow)
 
 returns : tie.Need-returns
-returns c = no-header _ _ _ _ _ _ (c .before .header-right .ensures) (c .if1 .taken)
+returns c = no-header _ _ _ _ _ _ _ (c .before .header-right .ensures) (c .if1 .taken)
 
 shared-slice-read-n : tie.Need-shared-slice-read-n
-shared-slice-read-n c = omega (arith, header-length _ _ _ _ _ (c .before .before .before .before .before .before .before .before .pre))
+shared-slice-read-n c = omega (arith, header-length _ _ _ _ _ _ (c .before .before .before .before .before .before .before .before .pre))
 
 shared-slice-read-m : tie.Need-shared-slice-read-m
-shared-slice-read-m c = omega (arith, header-length _ _ _ _ _ (c .before .before .before .before .before .before .before .before .before .pre))
+shared-slice-read-m c = omega (arith, header-length _ _ _ _ _ _ (c .before .before .before .before .before .before .before .before .before .pre))
 
 wallets-right-requires : tie.Need-wallets-right-requires
 wallets-right-requires c κs = within (c .before .before) .wallets
 
 returns-2 : tie.Need-returns-2
-returns-2 c = no-wallets _ _ _ _ _ (right (c .before .before .before .before)) _ (c .before .wallets-right .ensures) (c .if2 .taken)
+returns-2 c = no-wallets _ _ _ _ _ _ (right (c .before .before .before .before)) _ (c .before .wallets-right .ensures) (c .if2 .taken)
 
 shared-slice-read-total-right : tie.Need-shared-slice-read-total-right
-shared-slice-read-total-right c = omega (arith, header-length _ _ _ _ _ (c .before .before .before .before .before .before .before .before .before .before .before .before .pre))
+shared-slice-read-total-right c = omega (arith, header-length _ _ _ _ _ _ (c .before .before .before .before .before .before .before .before .before .before .before .before .pre))
 
 total-right-requires : tie.Need-total-right-requires
 total-right-requires c κs = within (c .before .before .before .before .before) .wallets
 
 returns-3 : tie.Need-returns-3
-returns-3 c = no-total _ _ _ _ _ (right (c .before .before .before .before .before .before .before)) _ (c .before .total-right .ensures) (c .if3 .taken)
+returns-3 c = no-total _ _ _ _ _ _ (right (c .before .before .before .before .before .before .before)) _ (c .before .total-right .ensures) (c .if3 .taken)
 
 parties-right-requires : tie.Need-parties-right-requires
 parties-right-requires c κs = within (c .before .before .before .before .before .before .before)
 
 returns-4 : tie.Need-returns-4
-returns-4 c = no-parties _ _ _ _ _ (right (c .before .before .before .before .before .before .before .before .before)) _ (c .before .parties-right .ensures) (c .if4 .taken)
+returns-4 c = no-parties _ _ _ _ _ _ (right (c .before .before .before .before .before .before .before .before .before)) _ (c .before .parties-right .ensures) (c .if4 .taken)
 
 shared-slice-read-receipts-right : tie.Need-shared-slice-read-receipts-right
-shared-slice-read-receipts-right c = omega (arith, header-length _ _ _ _ _ (c .before .before .before .before .before .before .before .before .before .before .before .before .before .before .before .before .before .pre))
+shared-slice-read-receipts-right c = omega (arith, header-length _ _ _ _ _ _ (c .before .before .before .before .before .before .before .before .before .before .before .before .before .before .before .before .before .pre))
 
 receipts-right-requires : tie.Need-receipts-right-requires
 receipts-right-requires c κs =
-    (within (c .before .before .before .before .before .before .before .before .before .before) .escrows, escrow-row _ _ _ _ _ (c .before .before .before .before .before .before .before .before .before .before .before .before .before .before .before .before .before .pre), receipt-rows _ _ _ _ _ (c .before .before .before .before .before .before .before .before .before .before .before .before .before .before .before .before .before .pre) (right (c .before .before .before .before .before .before .before .before .before .before)))
+    (within (c .before .before .before .before .before .before .before .before .before .before) .escrows, escrow-row _ _ _ _ _ _ (c .before .before .before .before .before .before .before .before .before .before .before .before .before .before .before .before .before .pre), receipt-rows _ _ _ _ _ _ (c .before .before .before .before .before .before .before .before .before .before .before .before .before .before .before .before .before .pre) (right (c .before .before .before .before .before .before .before .before .before .before)), c .before .before .before .before .before .before .before .before .before .before .before .before .before .before .before .before .before .pre .1 .escrow)
 
 returns-5 : tie.Need-returns-5
-returns-5 c = no-receipts _ _ _ _ _ (right (c .before .before .before .before .before .before .before .before .before .before .before .before)) _ (c .before .receipts-right .ensures) (c .if5 .taken)
+returns-5 c = no-receipts _ _ _ _ _ _ (right (c .before .before .before .before .before .before .before .before .before .before .before .before)) _ (c .before .receipts-right .ensures) (c .if5 .taken)
 
 shared-slice-read-entries-right : tie.Need-shared-slice-read-entries-right
-shared-slice-read-entries-right c = omega (arith, header-length _ _ _ _ _ (c .before .before .before .before .before .before .before .before .before .before .before .before .before .before .before .before .before .before .before .before .pre))
+shared-slice-read-entries-right c = omega (arith, header-length _ _ _ _ _ _ (c .before .before .before .before .before .before .before .before .before .before .before .before .before .before .before .before .before .before .before .before .pre))
 
 entries-right-requires : tie.Need-entries-right-requires
-entries-right-requires c κs = entry-rows _ _ _ _ _ (c .before .before .before .before .before .before .before .before .before .before .before .before .before .before .before .before .before .before .before .before .pre) (right (c .before .before .before .before .before .before .before .before .before .before .before .before .before))
+entries-right-requires c κs = entry-rows _ _ _ _ _ _ (c .before .before .before .before .before .before .before .before .before .before .before .before .before .before .before .before .before .before .before .before .pre) (right (c .before .before .before .before .before .before .before .before .before .before .before .before .before))
 
 returns-6 : tie.Need-returns-6
 returns-6 c =
-    the-entries _ _ _ _ _ (right (c .before .before .before .before .before .before .before .before .before .before .before .before .before .before)) _ _ _ _ _ (c .before .before .before .before .before .before .before .before .before .before .before .wallets-right .ensures) (c .before .before .before .before .before .before .before .before .before .before .if2 .left) (c .before .before .before .before .before .before .before .before .total-right .ensures) (c .before .before .before .before .before .before .before .if3 .left)
+    the-entries _ _ _ _ _ _ (right (c .before .before .before .before .before .before .before .before .before .before .before .before .before .before)) _ _ _ _ _ (c .before .before .before .before .before .before .before .before .before .before .before .wallets-right .ensures) (c .before .before .before .before .before .before .before .before .before .before .if2 .left) (c .before .before .before .before .before .before .before .before .total-right .ensures) (c .before .before .before .before .before .before .before .if3 .left)
     (c .before .before .before .before .before .before .parties-right .ensures) (c .before .before .before .before .before .if4 .left) (c .before .before .before .receipts-right .ensures) (c .before .before .if5 .left) (c .entries-right .ensures)
 
 pub is-sound-spec : {M : Type 1} → statement M

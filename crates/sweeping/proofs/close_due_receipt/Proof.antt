@@ -23,7 +23,7 @@ same-length-3 : tie.Need-same-length-3
 same-length-3 c = search needs
 
 returns : tie.Need-returns
-returns c = due-accepted _ _ _ _ _ _ _ _ _ _ _ (c .before .before .before .before .before .before .before .before .before .before .before .get .ensures) (c .before .before .before .before .before .before .before .before .before .before .if1 .taken) (c .before .before .before .before .before .before .accept-receipt .ensures)
+returns c = due-accepted _ _ _ _ _ _ _ _ _ _ _ _ (c .before .before .before .before .before .before .before .before .before .before .before .get .ensures) (c .before .before .before .before .before .before .before .before .before .before .if1 .taken) (c .before .before .before .before .before .before .accept-receipt .ensures)
 
 close-receipt-requires : tie.Need-close-receipt-requires
 close-receipt-requires c κs = search needs
@@ -32,7 +32,7 @@ same-length-4 : tie.Need-same-length-4
 same-length-4 c = search needs
 
 returns-2 : tie.Need-returns-2
-returns-2 c = due-lapsed _ _ _ _ _ _ _ _ (c .before .before .before .before .before .get .ensures) (c .before .before .before .before .if1 .left) (c .before .before .close-receipt .ensures)
+returns-2 c = due-lapsed _ _ _ _ _ _ _ _ _ (c .before .before .before .before .before .get .ensures) (c .before .before .before .before .if1 .left) (c .before .before .close-receipt .ensures)
 
 pub close-due-receipt-spec : {M : Type 1} → statement M
 close-due-receipt-spec =

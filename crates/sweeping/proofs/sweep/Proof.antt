@@ -13,7 +13,7 @@ sub-sweep-escrows : tie.Need-sub-sweep-escrows
 sub-sweep-escrows c = search needs
 
 sweep-escrows-requires : tie.Need-sweep-escrows-requires
-sweep-escrows-requires c κs = expiring _ _ _ _ _ _ _ _ (c .before .before .before .before .before .before .before .before .before .before .before .before .before .before .before .before .args .limit) (c .before .before .before .before .before .before .before .before .sweep-receipts .result) (c .before .before .before .before .before .before .before .before .before .before .before .before .before .before .before .before .pre) (c .before .before .before .before .before .before .before .before .sweep-receipts .ensures .1)
+sweep-escrows-requires c κs = expiring _ _ _ _ _ _ _ _ _ (c .before .before .before .before .before .before .before .before .before .before .before .before .before .before .before .before .args .limit) (c .before .before .before .before .before .before .before .before .sweep-receipts .result) (c .before .before .before .before .before .before .before .before .before .before .before .before .before .before .before .before .pre) (c .before .before .before .before .before .before .before .before .sweep-receipts .ensures .1)
 
 add-result : tie.Need-add-result
 add-result c = omega (arith, c .before .before .before .before .before .before .before .before .before .before .before .before .before .sweep-receipts .ensures .0, c .before .before .before .before .sweep-escrows .ensures .0)
@@ -28,7 +28,7 @@ same-length-3 : tie.Need-same-length-3
 same-length-3 c = search needs
 
 returns : tie.Need-returns
-returns c = swept-by _ _ _ _ _ _ _ _ _ _ _ _ _ (c .before .before .before .before .before .before .before .before .before .before .before .before .before .sweep-receipts .ensures .1) (c .before .before .before .before .sweep-escrows .ensures .1)
+returns c = swept-by _ _ _ _ _ _ _ _ _ _ _ _ _ _ (c .before .before .before .before .before .before .before .before .before .before .before .before .before .before .before .before .before .before .before .before .before .pre .good .wide) (c .before .before .before .before .before .before .before .before .before .before .before .before .before .sweep-receipts .ensures .1) (c .before .before .before .before .sweep-escrows .ensures .1)
 
 pub sweep-spec : {M : Type 1} → statement M
 sweep-spec =

@@ -13,7 +13,7 @@ is-due-requires : tie.Need-is-due-requires
 is-due-requires c κs = search needs
 
 end-escrow-requires : tie.Need-end-escrow-requires
-end-escrow-requires c κs = can-end _ _ _ _ _ _ (c .before .before .before .before .before .before .before .before .before .pre) (c .before .before .before .is-due .ensures) (c .before .before .if1 .taken)
+end-escrow-requires c κs = can-end _ _ _ _ _ _ _ (c .before .before .before .before .before .before .before .before .before .pre) (c .before .before .before .is-due .ensures) (c .before .before .if1 .taken)
 
 same-length : tie.Need-same-length
 same-length c = search needs
@@ -22,13 +22,13 @@ same-length-2 : tie.Need-same-length-2
 same-length-2 c = search needs
 
 returns : tie.Need-returns
-returns c = (omega arith, escrow-closed _ _ _ _ _ _ (c .before .before .before .before .before .before .before .before .is-due .ensures) _ _ (c .before .before .before .before .before .before .before .if1 .taken) (c .before .before .before .before .end-escrow .ensures))
+returns c = (omega arith, escrow-closed _ _ _ _ _ _ _ (c .before .before .before .before .before .before .before .before .is-due .ensures) _ _ (c .before .before .before .before .before .before .before .if1 .taken) (c .before .before .before .before .end-escrow .ensures))
 
 same-length-3 : tie.Need-same-length-3
 same-length-3 c = search needs
 
 returns-2 : tie.Need-returns-2
-returns-2 c = (omega arith, escrow-passed _ _ _ _ _ _ (c .before .is-due .ensures) (c .if1 .left))
+returns-2 c = (omega arith, escrow-passed _ _ _ _ _ _ _ (c .before .is-due .ensures) (c .if1 .left))
 
 pub sweep-escrow-spec : {M : Type 1} → statement M
 sweep-escrow-spec =

@@ -24,13 +24,13 @@ same-length-3 : tie.Need-same-length-3
 same-length-3 c = search needs
 
 returns : tie.Need-returns
-returns c = (omega arith, receipt-closed _ _ _ _ _ _ _ (c .before .before .before .before .before .before .before .before .before .before .before .is-due .ensures) _ _ _ (c .before .before .before .before .before .before .before .before .before .before .if1 .taken) (c .before .before .before .before .before .before .close-due-receipt .ensures))
+returns c = (omega arith, receipt-closed _ _ _ _ _ _ _ _ (c .before .before .before .before .before .before .before .before .before .before .before .is-due .ensures) _ _ _ (c .before .before .before .before .before .before .before .before .before .before .if1 .taken) (c .before .before .before .before .before .before .close-due-receipt .ensures))
 
 same-length-4 : tie.Need-same-length-4
 same-length-4 c = search needs
 
 returns-2 : tie.Need-returns-2
-returns-2 c = (omega arith, receipt-passed _ _ _ _ _ _ _ (c .before .is-due .ensures) (c .if1 .left))
+returns-2 c = (omega arith, receipt-passed _ _ _ _ _ _ _ _ (c .before .is-due .ensures) (c .if1 .left))
 
 pub sweep-receipt-spec : {M : Type 1} → statement M
 sweep-receipt-spec =

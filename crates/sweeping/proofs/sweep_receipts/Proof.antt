@@ -7,24 +7,24 @@ use Rattle.sweeping.proofs.sweep_receipts.Statement.{statement}
 use Rattle.sweeping.proofs.sweep_receipts.Tie as tie
 
 abbrev Inv-loop : tie.InvT-loop
-Inv-loop header wallets₀ escrows₀ receipts₀ time limit written closed₀ number₀ wallets escrows receipts closed number =
-    SoFar header wallets₀ escrows₀ receipts₀ time limit closed number wallets escrows receipts
+Inv-loop edition header wallets₀ escrows₀ receipts₀ time limit written closed₀ number₀ wallets escrows receipts closed number =
+    SoFar edition header wallets₀ escrows₀ receipts₀ time limit closed number wallets escrows receipts
 
 abbrev μ-loop : tie.MeasureT-loop
-μ-loop header wallets₀ escrows₀ receipts₀ time limit written closed₀ number₀ wallets escrows receipts closed number =
+μ-loop edition header wallets₀ escrows₀ receipts₀ time limit written closed₀ number₀ wallets escrows receipts closed number =
     written - number
 
 shared-slice-read-written : tie.Need-shared-slice-read-written Inv-loop μ-loop
 shared-slice-read-written c = search needs
 
 loop-holds : tie.Need-loop-holds Inv-loop μ-loop
-loop-holds c = start _ _ _ _ _ _
+loop-holds c = start _ _ _ _ _ _ _
 
 add-number : tie.Need-add-number Inv-loop μ-loop
 add-number c = omega arith
 
 sweep-receipt-requires : tie.Need-sweep-receipt-requires Inv-loop μ-loop
-sweep-receipt-requires c κs = can-accept _ _ _ _ _ _ _ _ _ _ _ (c .before .before .before .before .before .loop .inv) (c .before .before .before .before .before .before .before .before .before .before .before .pre) (c .before .before .before .before .if1 .left)
+sweep-receipt-requires c κs = can-accept _ _ _ _ _ _ _ _ _ _ _ _ (c .before .before .before .before .before .loop .inv) (c .before .before .before .before .before .before .before .before .before .before .before .pre) (c .before .before .before .before .if1 .left)
 
 add-closed : tie.Need-add-closed Inv-loop μ-loop
 add-closed c = omega arith
@@ -34,8 +34,8 @@ loop-less c = omega arith
 
 loop-again : tie.Need-loop-again Inv-loop μ-loop
 loop-again c =
-    next _ _ _ _ _ _ _ _ _ _ _ (c .before .before .before .before .before .before .before .before .before .before .before .before .loop .inv) _ _ _ _ (c .before .before .before .before .before .before .before .before .before .before .before .if1 .left) (c .before .before .before .before .before .before .before .before .before .before .if2 .left)
-    (c .before .before .before .before .before .before .sweep-receipt .kept .1 .0) (c .before .before .before .before .before .before .sweep-receipt .kept .1 .1 .0) (c .before .before .before .before .before .before .sweep-receipt .kept .1 .1 .1 .0) (c .before .before .before .before .before .before .sweep-receipt .ensures .0) (c .before .before .before .before .before .before .sweep-receipt .ensures .1)
+    next _ _ _ _ _ _ _ _ _ _ _ _ (c .before .before .before .before .before .before .before .before .before .before .before .before .loop .inv) _ _ _ _ (c .before .before .before .before .before .before .before .before .before .before .before .if1 .left) (c .before .before .before .before .before .before .before .before .before .before .if2 .left)
+    (c .before .before .before .before .before .before .sweep-receipt .kept .1 .1 .0) (c .before .before .before .before .before .before .sweep-receipt .kept .1 .1 .1 .0) (c .before .before .before .before .before .before .sweep-receipt .kept .1 .1 .1 .1 .0) (c .before .before .before .before .before .before .sweep-receipt .ensures .0) (c .before .before .before .before .before .before .sweep-receipt .ensures .1)
 
 same-length : tie.Need-same-length Inv-loop μ-loop
 same-length c = c .before .loop .inv .wallets
@@ -47,7 +47,7 @@ same-length-3 : tie.Need-same-length-3 Inv-loop μ-loop
 same-length-3 c = c .before .loop .inv .receipts
 
 returns : tie.Need-returns Inv-loop μ-loop
-returns c = ended _ _ _ _ _ _ _ _ _ _ _ (c .before .loop .inv) (c .if1 .taken)
+returns c = ended _ _ _ _ _ _ _ _ _ _ _ _ (c .before .loop .inv) (c .if1 .taken)
 
 same-length-4 : tie.Need-same-length-4 Inv-loop μ-loop
 same-length-4 c = c .before .before .loop .inv .wallets
@@ -59,7 +59,7 @@ same-length-6 : tie.Need-same-length-6 Inv-loop μ-loop
 same-length-6 c = c .before .before .loop .inv .receipts
 
 returns-2 : tie.Need-returns-2 Inv-loop μ-loop
-returns-2 c = full _ _ _ _ _ _ _ _ _ _ _ (c .before .before .loop .inv) (c .if2 .taken)
+returns-2 c = full _ _ _ _ _ _ _ _ _ _ _ _ (c .before .before .loop .inv) (c .if2 .taken)
 
 pub sweep-receipts-spec : {M : Type 1} → statement M
 sweep-receipts-spec =

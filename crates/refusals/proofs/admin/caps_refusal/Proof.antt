@@ -28,7 +28,7 @@ choose-requires-3 c κs = search needs
 
 returns : tie.Need-returns
 returns c =
-    λ e r. caps-by _ _ e r _ _ _ _ _ _
+    λ K. caps-by (K .edition) _ _ (K .escrows) (K .receipts) _ _ _ _ _ _
     (c .before .before .before .before .before .before .before .before .before .before .before .pre .2)
     (c .before .before .before .before .before .find-row .ensures)
     (c .before .before .choose .ensures)

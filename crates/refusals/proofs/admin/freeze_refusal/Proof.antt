@@ -25,7 +25,7 @@ choose-requires-2 c κs = search needs
 
 returns : tie.Need-returns
 returns c =
-    λ e r. freeze-by _ _ e r _ _ _ _ _
+    λ K. freeze-by (K .edition) _ _ (K .escrows) (K .receipts) _ _ _ _ _
     (c .before .before .before .before .before .before .before .before .before .pre .2)
     (c .before .before .before .find-row .ensures)
     (c .before .choose .ensures)

@@ -1,11 +1,12 @@
 -- `escrows::hold_all` meets its contract. The loop's invariant: the escrows passed are right, and the sums are those over them.
+use Rattle.sound.proofs.Links.{row-end}
 use Rattle.sound.proofs.Holds.{held-end}
 use native.Mathlib.Omega.{arith}
 use Prim.Native.Nat.{_≤_, _-_}
 use mathlib.Core.Path.{_≡_}
 use mathlib.Core.Bool.{true, false, false≢true}
 use borrow.Author.Tests.{not-true, not-false}
-use Rattle.rules.specs.Limits.{ESCROW-LEN, MAX-WALLETS, FROM, TO}
+use Rattle.rules.specs.Limits.{MAX-WALLETS, FROM, TO}
 use Rattle.rules.specs.Table.{word, all, every}
 use Rattle.rules.specs.Sound.{escrowTests}
 use Rattle.rules.proofs.Counts.{every-none}
@@ -18,17 +19,17 @@ use Rattle.sound.proofs.escrows.hold_all.Statement.{statement}
 use Rattle.sound.proofs.escrows.hold_all.Tie as tie
 
 abbrev Inv-loop : tie.InvT-loop
-Inv-loop w ids t n most e m sums₀ k₀ sums k =
-    (k ≤ m) × (every k (λ i. all (escrowTests (parties w n e m) i)) ≡ true) × Held w n e k sums
+Inv-loop w ids t n most e len m sums₀ k₀ sums k =
+    (k ≤ m) × (every k (λ i. all (escrowTests (parties len w n e m) i)) ≡ true) × Held len w n e k sums
 
 abbrev μ-loop : tie.MeasureT-loop
-μ-loop w ids t n most e m sums₀ k₀ sums k = m - k
+μ-loop w ids t n most e len m sums₀ k₀ sums k = m - k
 
 loop-holds : tie.Need-loop-holds Inv-loop μ-loop
 loop-holds c = (search needs, every-none _, c .before .before .pre .2)
 
 escrow-right-requires : tie.Need-escrow-right-requires Inv-loop μ-loop
-escrow-right-requires c κs = search needs
+escrow-right-requires c κs = (row-end (c .before .before .before .before .args .len) (c .before .before .before .before .args .m) (c .before .loop .k) (c .before .before .before .before .args .e .now) (c .before .before .before .before .pre .0 .escrows) (c .loop-test .taken), c .before .before .before .before .pre .0 .wide)
 
 returns : tie.Need-returns Inv-loop μ-loop
 returns c =
@@ -36,33 +37,33 @@ returns c =
     record {
       right =
           fails _ (c .before .before .before .loop .k) _ (search needs)
-          (row-wrong (a .w .now) (a .n) (a .e .now) (a .m) _ _ (c .before .escrow-right .ensures) (not-true _ (c .if1 .taken)));
+          (row-wrong (a .len) (a .w .now) (a .n) (a .e .now) (a .m) _ _ (c .before .escrow-right .ensures) (not-true _ (c .if1 .taken)));
       held = λ z. absurd (false≢true z);
     }
 
 mul-sender : tie.Need-mul-sender Inv-loop μ-loop
-mul-sender c = search needs
+mul-sender c = omega (arith, c .before .before .before .before .before .before .pre .0 .wide, row-end (c .before .before .before .before .before .before .args .len) (c .before .before .before .before .before .before .args .m) (c .before .before .before .loop .k) (c .before .before .before .before .before .before .args .e .now) (c .before .before .before .before .before .before .pre .0 .escrows) (c .before .before .loop-test .taken))
 
 add-sender : tie.Need-add-sender Inv-loop μ-loop
-add-sender c = search needs
+add-sender c = omega (arith, c .before .before .before .before .before .before .pre .0 .wide, row-end (c .before .before .before .before .before .before .args .len) (c .before .before .before .before .before .before .args .m) (c .before .before .before .loop .k) (c .before .before .before .before .before .before .args .e .now) (c .before .before .before .before .before .before .pre .0 .escrows) (c .before .before .loop-test .taken))
 
 mul-sender-2 : tie.Need-mul-sender-2 Inv-loop μ-loop
-mul-sender-2 c = search needs
+mul-sender-2 c = omega (arith, c .before .before .before .before .before .before .pre .0 .wide, row-end (c .before .before .before .before .before .before .args .len) (c .before .before .before .before .before .before .args .m) (c .before .before .before .loop .k) (c .before .before .before .before .before .before .args .e .now) (c .before .before .before .before .before .before .pre .0 .escrows) (c .before .before .loop-test .taken))
 
 shared-slice-read-sender : tie.Need-shared-slice-read-sender Inv-loop μ-loop
-shared-slice-read-sender c = search needs
+shared-slice-read-sender c = omega (arith, c .before .before .before .before .before .before .before .pre .0 .wide, row-end (c .before .before .before .before .before .before .before .args .len) (c .before .before .before .before .before .before .before .args .m) (c .before .before .before .before .loop .k) (c .before .before .before .before .before .before .before .args .e .now) (c .before .before .before .before .before .before .before .pre .0 .escrows) (c .before .before .before .loop-test .taken))
 
 mul-sender-3 : tie.Need-mul-sender-3 Inv-loop μ-loop
-mul-sender-3 c = search needs
+mul-sender-3 c = omega (arith, c .before .before .before .before .before .before .before .pre .0 .wide, row-end (c .before .before .before .before .before .before .before .args .len) (c .before .before .before .before .before .before .before .args .m) (c .before .before .before .before .loop .k) (c .before .before .before .before .before .before .before .args .e .now) (c .before .before .before .before .before .before .before .pre .0 .escrows) (c .before .before .before .loop-test .taken))
 
 add-sender-2 : tie.Need-add-sender-2 Inv-loop μ-loop
-add-sender-2 c = search needs
+add-sender-2 c = omega (arith, c .before .before .before .before .before .before .before .pre .0 .wide, row-end (c .before .before .before .before .before .before .before .args .len) (c .before .before .before .before .before .before .before .args .m) (c .before .before .before .before .loop .k) (c .before .before .before .before .before .before .before .args .e .now) (c .before .before .before .before .before .before .before .pre .0 .escrows) (c .before .before .before .loop-test .taken))
 
 mul-sender-4 : tie.Need-mul-sender-4 Inv-loop μ-loop
-mul-sender-4 c = search needs
+mul-sender-4 c = omega (arith, c .before .before .before .before .before .before .before .pre .0 .wide, row-end (c .before .before .before .before .before .before .before .args .len) (c .before .before .before .before .before .before .before .args .m) (c .before .before .before .before .loop .k) (c .before .before .before .before .before .before .before .args .e .now) (c .before .before .before .before .before .before .before .pre .0 .escrows) (c .before .before .before .loop-test .taken))
 
 shared-slice-read-sender-2 : tie.Need-shared-slice-read-sender-2 Inv-loop μ-loop
-shared-slice-read-sender-2 c = search needs
+shared-slice-read-sender-2 c = omega (arith, c .before .before .before .before .before .before .before .before .pre .0 .wide, row-end (c .before .before .before .before .before .before .before .before .args .len) (c .before .before .before .before .before .before .before .before .args .m) (c .before .before .before .before .before .loop .k) (c .before .before .before .before .before .before .before .before .args .e .now) (c .before .before .before .before .before .before .before .before .pre .0 .escrows) (c .before .before .before .before .loop-test .taken))
 
 sender-requires : tie.Need-sender-requires Inv-loop μ-loop
 sender-requires c κs = search needs
@@ -75,14 +76,14 @@ returns-2 c =
     }
 
 -- both wallets are written
-was-sent : (c : tie.Else2 Inv-loop μ-loop) → Sent (c .before .before .before .before .before .before .before .before .before .before .args .w .now) (c .before .before .before .before .before .before .before .before .before .before .args .n) (word (c .before .before .before .before .before .before .before .before .before .before .args .e .now) ESCROW-LEN (c .before .before .before .before .before .before .before .loop .k) FROM) (word (c .before .before .before .before .before .before .before .before .before .before .args .e .now) ESCROW-LEN (c .before .before .before .before .before .before .before .loop .k) TO) (c .before .sender .result)
+was-sent : (c : tie.Else2 Inv-loop μ-loop) → Sent (c .before .before .before .before .before .before .before .before .before .before .args .w .now) (c .before .before .before .before .before .before .before .before .before .before .args .n) (word (c .before .before .before .before .before .before .before .before .before .before .args .e .now) (c .before .before .before .before .before .before .before .before .before .before .args .len) (c .before .before .before .before .before .before .before .loop .k) FROM) (word (c .before .before .before .before .before .before .before .before .before .before .args .e .now) (c .before .before .before .before .before .before .before .before .before .before .args .len) (c .before .before .before .before .before .before .before .loop .k) TO) (c .before .sender .result)
 was-sent c = sent _ _ _ _ _ (c .before .sender .ensures) (c .if2 .left)
 
 -- the escrow is right
-is-right : (c : tie.Else2 Inv-loop μ-loop) → all (escrowTests (parties (c .before .before .before .before .before .before .before .before .before .before .args .w .now) (c .before .before .before .before .before .before .before .before .before .before .args .n) (c .before .before .before .before .before .before .before .before .before .before .args .e .now) (c .before .before .before .before .before .before .before .before .before .before .args .m)) (c .before .before .before .before .before .before .before .loop .k)) ≡ true
+is-right : (c : tie.Else2 Inv-loop μ-loop) → all (escrowTests (parties (c .before .before .before .before .before .before .before .before .before .before .args .len) (c .before .before .before .before .before .before .before .before .before .before .args .w .now) (c .before .before .before .before .before .before .before .before .before .before .args .n) (c .before .before .before .before .before .before .before .before .before .before .args .e .now) (c .before .before .before .before .before .before .before .before .before .before .args .m)) (c .before .before .before .before .before .before .before .loop .k)) ≡ true
 is-right c =
     let a = c .before .before .before .before .before .before .before .before .before .before .args in
-    row-right (a .w .now) (a .n) (a .e .now) (a .m) (c .before .before .before .before .before .before .before .loop .k) _ _ (c .before .before .before .before .before .escrow-right .ensures) (not-false _ (c .before .before .before .before .if1 .left)) (was-sent c)
+    row-right (a .len) (a .w .now) (a .n) (a .e .now) (a .m) (c .before .before .before .before .before .before .before .loop .k) _ _ (c .before .before .before .before .before .escrow-right .ensures) (not-false _ (c .before .before .before .before .if1 .left)) (was-sent c)
 
 -- the sender's number is one
 numbered : (c : tie.Else2 Inv-loop μ-loop) → c .before .sender .result ≤ MAX-WALLETS
@@ -95,13 +96,13 @@ element-copy-out-sums : tie.Need-element-copy-out-sums Inv-loop μ-loop
 element-copy-out-sums c = omega (arith, numbered c)
 
 held-in-requires : tie.Need-held-in-requires Inv-loop μ-loop
-held-in-requires c κs = search needs
+held-in-requires c κs = (row-end (c .before .before .before .before .before .before .before .before .before .before .before .args .len) (c .before .before .before .before .before .before .before .before .before .before .before .args .m) (c .before .before .before .before .before .before .before .before .loop .k) (c .before .before .before .before .before .before .before .before .before .before .before .args .e .now) (c .before .before .before .before .before .before .before .before .before .before .before .pre .0 .escrows) (c .before .before .before .before .before .before .before .loop-test .taken), c .before .before .before .before .before .before .before .before .before .before .before .pre .0 .wide)
 
 add-sums : tie.Need-add-sums Inv-loop μ-loop
 add-sums c =
     let d = c .before .before in
     let l = c .before .before .before .before .before .before .before .before .before .loop in
-    omega (arith, sums-fit _ _ _ (c .before .before .before .before .before .before .before .before .before .before .before .before .args .m) (l .k) _ _ _ _ _ (l .inv .2) (l .inv .1) (is-right d) (was-sent d) (omega (arith, c .before .before .before .before .before .before .before .before .before .before .before .before .pre .0 .fewer)) (c .held-in .ensures))
+    omega (arith, sums-fit _ _ _ _ (c .before .before .before .before .before .before .before .before .before .before .before .before .args .m) (l .k) _ _ _ _ _ (l .inv .2) (l .inv .1) (is-right d) (was-sent d) (omega (arith, c .before .before .before .before .before .before .before .before .before .before .before .before .pre .0 .fewer)) (c .held-in .ensures))
 
 mul-sums-2 : tie.Need-mul-sums-2 Inv-loop μ-loop
 mul-sums-2 c = omega (arith, numbered (c .before .before))
@@ -122,7 +123,7 @@ loop-again c =
     let p = c .before .before .before .before .before .before .before .before .before .before .before .before .pre in (
       search needs,
       pass-on _ _ (l .inv .1) (is-right d),
-      held-more _ _ _ _ _ _ _ _ (l .inv .2) (indexed-apart _ _ _ _ (p .1)) (p .0 .few) (was-sent d) (c .held-in .ensures),
+      held-more _ _ _ _ _ _ _ _ _ (l .inv .2) (indexed-apart _ _ _ _ (p .1)) (p .0 .few) (was-sent d) (c .held-in .ensures),
     )
 
 returns-3 : tie.Need-returns-3 Inv-loop μ-loop
@@ -130,7 +131,7 @@ returns-3 c =
     let l = c .before .loop in
     record {
       right = passes _ _ _ (l .inv .0) (c .loop-test .left) (l .inv .1);
-      held = λ _. held-end _ _ _ _ (l .k) _ (l .inv .0) (c .loop-test .left) (l .inv .2);
+      held = λ _. held-end _ _ _ _ _ (l .k) _ (l .inv .0) (c .loop-test .left) (l .inv .2);
     }
 
 pub hold-all-spec : {M : Type 1} → statement M

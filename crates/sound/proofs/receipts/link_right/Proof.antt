@@ -1,7 +1,8 @@
 -- `receipts::link_right` meets its contract: a link that is 0 or within the written escrows has its row one before it.
 use Rattle.rules.specs.Limits.{RECEIPT-LEN, REQUESTER, PROVIDER}
 use Rattle.rules.specs.Table.{word}
-use Rattle.sound.proofs.Links.{link-past, link-within}
+use Rattle.sound.proofs.Links.{link-past, link-within, row-in}
+use native.Mathlib.Omega.{arith}
 use borrow.Author.Needs.{needs}
 use Rattle.sound.proofs.receipts.link_right.Statement.{statement}
 use Rattle.sound.proofs.receipts.link_right.Tie as tie
@@ -25,16 +26,16 @@ row-at-requires : tie.Need-row-at-requires
 row-at-requires c κs = search needs
 
 mul-result : tie.Need-mul-result
-mul-result c = search needs
+mul-result c = omega (arith, c .before .before .before .before .before .pre .3, row-in (c .before .before .before .before .before .args .len) (c .before .before .before .before .before .args .m) _ _ (c .before .before .before .before .before .args .e .now) (c .before .before .before .before .before .pre .0) (c .before .before .before .before .before .pre .1) (c .before .if1 .left) (c .row-at .ensures))
 
 add-result : tie.Need-add-result
-add-result c = search needs
+add-result c = omega (arith, c .before .before .before .before .before .pre .3, row-in (c .before .before .before .before .before .args .len) (c .before .before .before .before .before .args .m) _ _ (c .before .before .before .before .before .args .e .now) (c .before .before .before .before .before .pre .0) (c .before .before .before .before .before .pre .1) (c .before .if1 .left) (c .row-at .ensures))
 
 mul-result-2 : tie.Need-mul-result-2
-mul-result-2 c = search needs
+mul-result-2 c = omega (arith, c .before .before .before .before .before .pre .3, row-in (c .before .before .before .before .before .args .len) (c .before .before .before .before .before .args .m) _ _ (c .before .before .before .before .before .args .e .now) (c .before .before .before .before .before .pre .0) (c .before .before .before .before .before .pre .1) (c .before .if1 .left) (c .row-at .ensures))
 
 shared-slice-read-result : tie.Need-shared-slice-read-result
-shared-slice-read-result c = search needs
+shared-slice-read-result c = omega (arith, c .before .before .before .before .before .before .pre .3, row-in (c .before .before .before .before .before .before .args .len) (c .before .before .before .before .before .before .args .m) _ _ (c .before .before .before .before .before .before .args .e .now) (c .before .before .before .before .before .before .pre .0) (c .before .before .before .before .before .before .pre .1) (c .before .before .if1 .left) (c .before .row-at .ensures))
 
 add-result-2 : tie.Need-add-result-2
 add-result-2 c = search needs
@@ -46,16 +47,16 @@ shared-slice-read-result-2 : tie.Need-shared-slice-read-result-2
 shared-slice-read-result-2 c = search needs
 
 mul-result-4 : tie.Need-mul-result-4
-mul-result-4 c = search needs
+mul-result-4 c = omega (arith, c .before .before .before .before .before .before .before .pre .3, row-in (c .before .before .before .before .before .before .before .args .len) (c .before .before .before .before .before .before .before .args .m) _ _ (c .before .before .before .before .before .before .before .args .e .now) (c .before .before .before .before .before .before .before .pre .0) (c .before .before .before .before .before .before .before .pre .1) (c .before .before .before .if1 .left) (c .before .before .row-at .ensures))
 
 add-result-3 : tie.Need-add-result-3
-add-result-3 c = search needs
+add-result-3 c = omega (arith, c .before .before .before .before .before .before .before .pre .3, row-in (c .before .before .before .before .before .before .before .args .len) (c .before .before .before .before .before .before .before .args .m) _ _ (c .before .before .before .before .before .before .before .args .e .now) (c .before .before .before .before .before .before .before .pre .0) (c .before .before .before .before .before .before .before .pre .1) (c .before .before .before .if1 .left) (c .before .before .row-at .ensures))
 
 mul-result-5 : tie.Need-mul-result-5
-mul-result-5 c = search needs
+mul-result-5 c = omega (arith, c .before .before .before .before .before .before .before .pre .3, row-in (c .before .before .before .before .before .before .before .args .len) (c .before .before .before .before .before .before .before .args .m) _ _ (c .before .before .before .before .before .before .before .args .e .now) (c .before .before .before .before .before .before .before .pre .0) (c .before .before .before .before .before .before .before .pre .1) (c .before .before .before .if1 .left) (c .before .before .row-at .ensures))
 
 shared-slice-read-result-3 : tie.Need-shared-slice-read-result-3
-shared-slice-read-result-3 c = search needs
+shared-slice-read-result-3 c = omega (arith, c .before .before .before .before .before .before .before .before .pre .3, row-in (c .before .before .before .before .before .before .before .before .args .len) (c .before .before .before .before .before .before .before .before .args .m) _ _ (c .before .before .before .before .before .before .before .before .args .e .now) (c .before .before .before .before .before .before .before .before .pre .0) (c .before .before .before .before .before .before .before .before .pre .1) (c .before .before .before .before .if1 .left) (c .before .before .before .row-at .ensures))
 
 add-result-4 : tie.Need-add-result-4
 add-result-4 c = search needs
@@ -69,7 +70,7 @@ shared-slice-read-result-4 c = search needs
 returns-2 : tie.Need-returns-2
 returns-2 c =
     let a = c .before .before .before .before .before .before .before .before .before .args in
-    link-within (a .e .now) _ _ _ (word (a .r .now) RECEIPT-LEN (a .k) REQUESTER) (word (a .r .now) RECEIPT-LEN (a .k) PROVIDER) (c .before .before .before .before .before .if1 .left) (c .before .before .before .before .row-at .ensures)
+    link-within (a .len) (a .e .now) _ _ _ (word (a .r .now) RECEIPT-LEN (a .k) REQUESTER) (word (a .r .now) RECEIPT-LEN (a .k) PROVIDER) (c .before .before .before .before .before .if1 .left) (c .before .before .before .before .row-at .ensures)
 
 pub link-right-spec : {M : Type 1} → statement M
 link-right-spec =

@@ -13,10 +13,10 @@ use Rattle.sound.proofs.receipts.receipts_right.Statement.{statement}
 use Rattle.sound.proofs.receipts.receipts_right.Tie as tie
 
 abbrev Inv-loop : tie.InvT-loop
-Inv-loop e m r p k₀ k = (k ≤ p) × (every k (λ i. all (receiptTests (receiptsIn e m r) i)) ≡ true)
+Inv-loop e len m r p k₀ k = (k ≤ p) × (every k (λ i. all (receiptTests (receiptsIn len e m r) i)) ≡ true)
 
 abbrev μ-loop : tie.MeasureT-loop
-μ-loop e m r p k₀ k = p - k
+μ-loop e len m r p k₀ k = p - k
 
 loop-holds : tie.Need-loop-holds Inv-loop μ-loop
 loop-holds c = (search needs, every-none _)

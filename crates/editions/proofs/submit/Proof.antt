@@ -1,15 +1,15 @@
--- `ledger::submit` meets its contract: at each early answer the stages before it were passed and this one was not, so the definition answers the
+-- `editions::submit` meets its contract: at each early answer the stages before it were passed and this one was not, so the definition answers the
 -- same (Submits.antt); at the end none refused, and what settling left is the definition's.
 use mathlib.Core.Path.{sym, _∙_}
 use Rattle.rules.proofs.Bools.{not-true-false, not-false-true}
-use Rattle.ledger.proofs.Submits.{read-well, bad-table, damaged, malformed, checked, settled, as-refused}
+use Rattle.editions.proofs.Submits.{read-well, bad-table, damaged, malformed, checked, settled, as-refused}
 use borrow.Author.Needs.{needs}
-use Rattle.ledger.proofs.submit.Statement.{statement}
-use Rattle.ledger.proofs.submit.Tie as tie
-use Rattle.ledger.proofs.submit.Reads as reads
-use Rattle.ledger.proofs.submit.Lts as lts
-use Rattle.ledger.proofs.lengths_right.Reads as lengths-right-reads
-use Rattle.ledger.proofs.refused.Reads as refused-reads
+use Rattle.editions.proofs.submit.Statement.{statement}
+use Rattle.editions.proofs.submit.Tie as tie
+use Rattle.editions.proofs.submit.Reads as reads
+use Rattle.editions.proofs.submit.Lts as lts
+use Rattle.editions.proofs.lengths_right.Reads as lengths-right-reads
+use Rattle.editions.proofs.refused.Reads as refused-reads
 use Rattle.record.proofs.read_record.Reads as read-record-reads
 use Rattle.refusals.proofs.refusal.Reads as refusal-reads
 use Rattle.settling.proofs.settle.Reads as settle-reads
@@ -42,7 +42,7 @@ returns c =
     (bad-table _ _ (sym (c .before .before .lengths-right .ensures) ∙ not-true-false _ (c .before .if1 .taken)))
 
 is-sound-requires : tie.Need-is-sound-requires
-is-sound-requires c κs = sym (c .before .before .before .before .before .before .lengths-right .ensures) ∙ not-false-true _ (c .before .before .before .before .before .if1 .left)
+is-sound-requires c κs = (sym (c .before .before .before .before .before .before .lengths-right .ensures) ∙ not-false-true _ (c .before .before .before .before .before .if1 .left), c .before .before .before .before .before .before .before .before .before .before .before .before .before .before .before .before .before .before .pre)
 
 refused-requires-2 : tie.Need-refused-requires-2
 refused-requires-2 c κs = search needs
@@ -97,6 +97,7 @@ returns-3 c =
 
 refusal-requires : tie.Need-refusal-requires
 refusal-requires c κs = record {
+  sized = c .before .before .before .before .before .before .before .before .before .before .before .before .before .before .before .before .before .before .before .before .before .before .before .before .before .before .before .before .before .pre;
   lengths = sym (c .before .before .before .before .before .before .before .before .before .before .before .before .before .before .before .before .before .lengths-right .ensures) ∙ not-false-true _ (c .before .before .before .before .before .before .before .before .before .before .before .before .before .before .before .before .if1 .left);
   right = sym (c .before .before .before .before .before .before .before .before .before .before .is-sound .ensures) ∙ not-false-true _ (c .before .before .before .before .before .before .before .before .before .if2 .left);
   formed = read-well _ (c .before .before .before .before .before .before .before .before .read-record .ensures) (c .before .before .before .before .before .before .if3 .left);
@@ -129,6 +130,7 @@ returns-4 c =
 
 settle-requires : tie.Need-settle-requires
 settle-requires c κs = record {
+  sized = c .before .before .before .before .before .before .before .before .before .before .before .before .before .before .before .before .before .before .before .before .before .before .before .before .before .before .before .before .before .before .before .before .before .before .before .before .pre;
   lengths = sym (c .before .before .before .before .before .before .before .before .before .before .before .before .before .before .before .before .before .before .before .before .before .before .before .before .lengths-right .ensures) ∙ not-false-true _ (c .before .before .before .before .before .before .before .before .before .before .before .before .before .before .before .before .before .before .before .before .before .before .before .if1 .left);
   is-sound = sym (c .before .before .before .before .before .before .before .before .before .before .before .before .before .before .before .before .before .is-sound .ensures) ∙ not-false-true _ (c .before .before .before .before .before .before .before .before .before .before .before .before .before .before .before .before .if2 .left);
   formed = read-well _ (c .before .before .before .before .before .before .before .before .before .before .before .before .before .before .before .read-record .ensures) (c .before .before .before .before .before .before .before .before .before .before .before .before .before .if3 .left);

@@ -1,16 +1,16 @@
--- `ledger::lookups::receipt_row` meets its contract.
+-- `editions::lookups::receipt_row` meets its contract.
 use mathlib.Core.Path.{sym, subst}
 use Prim.Native.Nat.{ℕ, _≤_}
 use lib.ListN.{length}
 use Rattle.rules.specs.Limits.{RECEIPT-LEN, MAX-RECEIPTS, RECEIPTS}
 use Rattle.rows.proofs.Part.{place-le}
-use Rattle.ledger.proofs.Parts.{part-by}
+use Rattle.editions.proofs.Parts.{part-by}
 use borrow.Author.Needs.{needs}
-use Rattle.ledger.proofs.lookups.receipt_row.Statement.{statement}
-use Rattle.ledger.proofs.lookups.receipt_row.Tie as tie
-use Rattle.ledger.proofs.lookups.receipt_row.Reads as reads
-use Rattle.ledger.proofs.lookups.receipt_row.Lts as lts
-use Rattle.ledger.proofs.lookups.receipt_place.Reads as receipt-place-reads
+use Rattle.editions.proofs.lookups.receipt_row.Statement.{statement}
+use Rattle.editions.proofs.lookups.receipt_row.Tie as tie
+use Rattle.editions.proofs.lookups.receipt_row.Reads as reads
+use Rattle.editions.proofs.lookups.receipt_row.Lts as lts
+use Rattle.editions.proofs.lookups.receipt_place.Reads as receipt-place-reads
 use Rattle.rows.proofs.row_part.Reads as row-part-reads
 
 receipt-place-requires : tie.Need-receipt-place-requires
@@ -19,7 +19,7 @@ receipt-place-requires c κs = search needs
 row-part-requires : tie.Need-row-part-requires
 row-part-requires c κs =
     let a = c .before .before .before .args in
-    (search needs, subst (λ (k : ℕ). k ≤ length (a .receipts .now)) (sym (c .receipt-place .ensures)) (place-le 8 RECEIPTS RECEIPT-LEN MAX-RECEIPTS (a .header .now) (a .receipts .now) (a .n .0)))
+    (search needs, subst (λ (k : ℕ). k ≤ length (a .receipts .now)) (sym (c .receipt-place .ensures)) (place-le (a .edition .header) RECEIPTS RECEIPT-LEN MAX-RECEIPTS (a .header .now) (a .receipts .now) (a .n .0)))
 
 returns : tie.Need-returns
 returns c =

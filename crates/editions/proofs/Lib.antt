@@ -1,0 +1,4 @@
+-- Laws that the calls rest on.
+pub mod Starts
+pub mod Parts
+pub mod Submits

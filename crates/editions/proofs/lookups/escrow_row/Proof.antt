@@ -1,0 +1,30 @@
+-- `editions::lookups::escrow_row` meets its contract.
+use mathlib.Core.Path.{sym, subst}
+use Prim.Native.Nat.{ℕ, _≤_}
+use lib.ListN.{length}
+use Rattle.rules.specs.Limits.{MAX-ESCROWS, ESCROWS}
+use Rattle.rows.proofs.Part.{place-le}
+use Rattle.editions.proofs.Parts.{part-by}
+use borrow.Author.Needs.{needs}
+use Rattle.editions.proofs.lookups.escrow_row.Statement.{statement}
+use Rattle.editions.proofs.lookups.escrow_row.Tie as tie
+use Rattle.editions.proofs.lookups.escrow_row.Reads as reads
+use Rattle.editions.proofs.lookups.escrow_row.Lts as lts
+use Rattle.editions.proofs.lookups.escrow_place.Reads as escrow-place-reads
+use Rattle.rows.proofs.row_part.Reads as row-part-reads
+
+escrow-place-requires : tie.Need-escrow-place-requires
+escrow-place-requires c κs = search needs
+
+row-part-requires : tie.Need-row-part-requires
+row-part-requires c κs =
+    let a = c .before .before .before .args in
+    (search needs, subst (λ (k : ℕ). k ≤ length (a .escrows .now)) (sym (c .escrow-place .ensures)) (place-le (a .edition .header) ESCROWS (a .edition .escrow) MAX-ESCROWS (a .header .now) (a .escrows .now) (a .n .0)))
+
+returns : tie.Need-returns
+returns c =
+    let a = c .before .before .before .before .args in
+    part-by (a .edition .escrow) (a .escrows .now) (c .row-part .result .now) (a .escrows .ptr) (c .row-part .result .ptr) (c .before .escrow-place .ensures) (c .row-part .ensures)
+
+pub escrow-row-spec : {M : Type 1} → statement M
+escrow-row-spec = tie.close (tie.spec escrow-place-requires row-part-requires returns)
