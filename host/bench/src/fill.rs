@@ -26,6 +26,15 @@ pub enum Ids {
     Chains,
 }
 
+/// Every kind, with its name in a report.
+pub const KINDS: [(&str, Ids); 5] = [
+    ("in a row", Ids::InARow),
+    ("random", Ids::Random),
+    ("all at one root of the index", Ids::OneRoot),
+    ("alike in 54 bits", Ids::Alike),
+    ("chains of 12: the worst found", Ids::Chains),
+];
+
 /// How many chains there are, and how long each is.
 const CHAINS: usize = 85;
 const LENGTH: usize = 12;

@@ -6,19 +6,17 @@
 
 #![forbid(unsafe_code)]
 
-mod fill;
 mod measure;
 mod plot;
 mod report;
 mod sqlite;
-mod stream;
 
 use std::env;
 use std::process::ExitCode;
 
 use milebeacon::Sizes;
 
-use fill::Ids;
+use bench::fill::{Ids, KINDS};
 use measure::{at_size, Costs, Effort};
 
 fn main() -> ExitCode {
@@ -55,14 +53,7 @@ fn work() -> Result<(), String> {
     }
     print!("{}", report::sizes(&rows));
 
-    let kinds = [
-        ("in a row", Ids::InARow),
-        ("random", Ids::Random),
-        ("all at one root of the index", Ids::OneRoot),
-        ("alike in 54 bits", Ids::Alike),
-        ("chains of 12: the worst found", Ids::Chains),
-    ];
-    let by_ids = kinds.map(|(name, ids)| (name, at_size(Sizes::LARGEST, ids, effort)));
+    let by_ids = KINDS.map(|(name, ids)| (name, at_size(Sizes::LARGEST, ids, effort)));
     print!("{}", report::ids(&by_ids));
 
     let growth: Vec<(Sizes, Costs)> = [64, 32, 16, 8, 4, 2, 1]

@@ -1,11 +1,10 @@
 //! What calls cost.
 
-use std::time::Instant;
-
 use milebeacon::{Ledger, Sizes, Tables};
 
-use crate::fill::{filled, Ids};
-use crate::stream::{hold_and_release, records};
+use bench::clock::timed;
+use bench::fill::{filled, Ids};
+use bench::stream::{hold_and_release, records};
 
 /// How often everything is measured.
 #[derive(Clone, Copy)]
@@ -29,13 +28,6 @@ pub struct Costs {
     /// A submission that settles.
     pub core_submit: f64,
     pub second_submit: f64,
-}
-
-/// Microseconds for each of `count` calls.
-pub fn timed(count: usize, calls: impl FnOnce()) -> f64 {
-    let from = Instant::now();
-    calls();
-    from.elapsed().as_secs_f64() * 1e6 / count as f64
 }
 
 /// The sum of all words and `sum`. Not inlined, and each time from another sum, so that every call

@@ -9,9 +9,11 @@ use std::path::Path;
 use milebeacon::{Operation, Sizes, Submission};
 use rusqlite::{params, Connection, Result};
 
-use crate::fill::{filled, Ids, NOW};
-use crate::measure::{timed, Effort};
-use crate::stream::hold_and_release;
+use bench::clock::timed;
+use bench::fill::{filled, Ids, NOW};
+use bench::stream::hold_and_release;
+
+use crate::measure::Effort;
 
 /// Microseconds for one settled submission.
 #[derive(Clone, Copy, Debug)]

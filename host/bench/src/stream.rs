@@ -1,4 +1,5 @@
-//! The stream of submissions that everything is measured by: hold, then release, again and again.
+//! The stream of submissions that everything is measured by: hold, then release, again and again;
+//! and a transfer, which is measured by itself.
 
 use milebeacon::{Envelope, EscrowNumber, Record, Sizes, Submission};
 
@@ -20,6 +21,11 @@ pub fn hold_and_release(sizes: Sizes, ids: Ids) -> Vec<Submission> {
         ));
     }
     stream
+}
+
+/// A transfer between two of the parties of the stream.
+pub fn transfer(ids: Ids) -> Submission {
+    Submission::transfer(Envelope::new(NOW, id(ids, 5), 1), id(ids, 3), 500)
 }
 
 /// The records of a stream.

@@ -1,0 +1,8 @@
+//! What the two programs of this package share: filled ledgers, the submissions that are timed, and
+//! the clock.
+
+#![forbid(unsafe_code)]
+
+pub mod clock;
+pub mod fill;
+pub mod stream;
