@@ -29,12 +29,15 @@ rows-fit len n t h = le-trans (mul-le-mul-right len h) (div-mul-le-self (length 
 pub room : (len n : ℕ) (t : List ℕ) → n < rowsIn len t → n * len + len ≤ length t
 room len n t h = let e : suc n * len ≡ n * len + len = suc-mul n len in subst (λ (x : ℕ). x ≤ length t) e (rows-fit len (suc n) t h)
 
--- a word of a written row has a place
-pub in-table : (len n i c : ℕ) (t : List ℕ) → n * len ≤ length t → i < n → c < len → i * len + c < length t
-in-table len n i c t h hi hc =
+-- a written row ends within the table, and a word of it has a place
+pub row-end : (len n i : ℕ) (t : List ℕ) → n * len ≤ length t → i < n → i * len + len ≤ length t
+row-end len n i t h hi =
     let e : suc i * len ≡ i * len + len = suc-mul i len in
     let m : suc i * len ≤ n * len = mul-le-mul-right len hi in
     omega arith
+
+pub in-table : (len n i c : ℕ) (t : List ℕ) → n * len ≤ length t → i < n → c < len → i * len + c < length t
+in-table len n i c t h hi hc = omega (arith, row-end len n i t h hi)
 
 -- a word set: that word, another row, another column, the length
 pub word-same : (t : List ℕ) (len i c v : ℕ) → i * len + c < length t → word (put t len i c v) len i c ≡ v

@@ -9,11 +9,11 @@ use Rattle.rules.specs.Limits.{WALLETS, ESCROWS, RECEIPTS, ENTRIES, ID}
 use Rattle.rules.specs.Table.{word, put, putRow, rowsIn, tableRight, all, seek}
 pub use Rattle.rules.specs.declared.Edition.{Edition}
 
--- an edition's number, and the words of its header and of its escrow row
+-- an edition is its number, and the words of its header and of an escrow row: the very struct that the code is given
 abbrev pub first-edition : Edition
 first-edition = record { number = FIRST-EDITION; header = HEADER-LEN; escrow = ESCROW-LEN }
 
--- an edition whose header and escrow rows have all the words of the first, and are small
+-- an edition that the code can serve: its header and escrow rows have all the words named here, and no place in a table wraps
 pub record Sized (ed : Edition) : Type 0 where
   pub header : HEADER-LEN ≤ ed .header
   pub escrow : ESCROW-LEN ≤ ed .escrow
@@ -27,7 +27,7 @@ pub record Ledger : Type 0 where
   pub receipts : List ℕ
   pub journal : List ℕ
 
--- five lent slices of an edition, and of the first
+-- five lent slices of an edition; of the first
 abbrev pub ledgerOf : Edition → List ℕ → List ℕ → List ℕ → List ℕ → List ℕ → Ledger
 ledgerOf ed h w e r j = record { edition = ed; header = h; wallets = w; escrows = e; receipts = r; journal = j }
 

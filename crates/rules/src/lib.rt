@@ -48,6 +48,7 @@ pub struct Edition {
     pub escrow: usize,
 }
 
+// The first, as document 01 has it; `first-edition` of the definitions.
 pub const FIRST: Edition = Edition {
     number: FIRST_EDITION,
     header: HEADER_LEN,

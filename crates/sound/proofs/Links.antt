@@ -2,8 +2,8 @@
 use mathlib.Core.Path.{_≡_, refl}
 use mathlib.Core.Bool.{Bool, true, false, _&&_, _||_}
 use mathlib.Core.List.{List}
-use Prim.Native.Nat.{ℕ, suc, _+_, _-_, _*_, _≤_, _<_}
-use native.Mathlib.Nat.{mul-le-mul-right, suc-mul, zero-mul}
+use Prim.Native.Nat.{ℕ, _+_, _-_, _*_, _≤_, _<_}
+use native.Mathlib.Nat.{zero-mul}
 use native.Mathlib.Decide.{ℕ-discrete}
 use native.Mathlib.Omega.{arith}
 use lib.ListN.{length}
@@ -12,13 +12,7 @@ use borrow.Author.Tests.{eqb-false, ne-eqb, lt-ltb, le-leb, lt-leb}
 use Rattle.rules.specs.Limits.{FROM, TO}
 use Rattle.rules.specs.Table.{word}
 use Rattle.rules.specs.Ledger.{written}
-
--- the words of a row that is one of m
-pub row-end : (len m k : ℕ) (e : List ℕ) → m * len ≤ length e → k < m → k * len + len ≤ length e
-row-end len m k e fits l =
-    let x : suc k * len ≡ k * len + len = suc-mul k len in
-    let y : suc k * len ≤ m * len = mul-le-mul-right len l in
-    omega arith
+use Rattle.rules.proofs.Rows.{row-end}
 
 pub link-past : (m k : ℕ) (b : Bool) → m < k → false ≡ (eqb k 0 || (written m k && b))
 link-past m k b l = rw (ne-eqb k 0 (omega arith), lt-ltb 0 k (omega arith), lt-leb k m l)

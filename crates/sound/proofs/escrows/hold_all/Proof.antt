@@ -1,19 +1,19 @@
 -- `escrows::hold_all` meets its contract. The loop's invariant: the escrows passed are right, and the sums are those over them.
-use Rattle.sound.proofs.Links.{row-end}
-use Rattle.sound.proofs.Holds.{held-end}
+use Prim.Native.Nat.{_+_, _-_, _*_, _≤_}
 use native.Mathlib.Omega.{arith}
-use Prim.Native.Nat.{_≤_, _-_}
+use lib.ListN.{length}
 use mathlib.Core.Path.{_≡_}
 use mathlib.Core.Bool.{true, false, false≢true}
 use borrow.Author.Tests.{not-true, not-false}
-use Rattle.rules.specs.Limits.{MAX-WALLETS, FROM, TO}
+use Rattle.rules.specs.Limits.{ESCROW-LEN, MAX-WALLETS, FROM, TO}
 use Rattle.rules.specs.Table.{word, all, every}
 use Rattle.rules.specs.Sound.{escrowTests}
 use Rattle.rules.proofs.Counts.{every-none}
+use Rattle.rules.proofs.Rows.{row-end}
 use Rattle.index.proofs.Laws.{indexed-apart}
 use Rattle.sound.specs.Parts.{parties, Held}
 use Rattle.sound.proofs.Loops.{pass-on, fails, passes}
-use Rattle.sound.proofs.Holds.{Sent, sent, not-sent, sent-row, row-wrong, row-right, sums-fit, held-more}
+use Rattle.sound.proofs.Holds.{Sent, sent, not-sent, sent-row, row-wrong, row-right, sums-fit, held-end, held-more}
 use borrow.Author.Needs.{needs}
 use Rattle.sound.proofs.escrows.hold_all.Statement.{statement}
 use Rattle.sound.proofs.escrows.hold_all.Tie as tie
@@ -28,8 +28,15 @@ abbrev μ-loop : tie.MeasureT-loop
 loop-holds : tie.Need-loop-holds Inv-loop μ-loop
 loop-holds c = (search needs, every-none _, c .before .before .pre .2)
 
+-- the row of a turn is in its table, and has all the named words
+row-here : (c : tie.In-loop Inv-loop μ-loop)
+    → let a = c .before .before .before .before .args in (c .before .loop .k * a .len + a .len ≤ length (a .e .now)) × (ESCROW-LEN ≤ a .len)
+row-here c =
+    let d = c .before .before .before .before in
+    (row-end (d .args .len) (d .args .m) (c .before .loop .k) (d .args .e .now) (d .pre .0 .escrows) (c .loop-test .taken), d .pre .0 .wide)
+
 escrow-right-requires : tie.Need-escrow-right-requires Inv-loop μ-loop
-escrow-right-requires c κs = (row-end (c .before .before .before .before .args .len) (c .before .before .before .before .args .m) (c .before .loop .k) (c .before .before .before .before .args .e .now) (c .before .before .before .before .pre .0 .escrows) (c .loop-test .taken), c .before .before .before .before .pre .0 .wide)
+escrow-right-requires c κs = row-here c
 
 returns : tie.Need-returns Inv-loop μ-loop
 returns c =
@@ -42,28 +49,28 @@ returns c =
     }
 
 mul-sender : tie.Need-mul-sender Inv-loop μ-loop
-mul-sender c = omega (arith, c .before .before .before .before .before .before .pre .0 .wide, row-end (c .before .before .before .before .before .before .args .len) (c .before .before .before .before .before .before .args .m) (c .before .before .before .loop .k) (c .before .before .before .before .before .before .args .e .now) (c .before .before .before .before .before .before .pre .0 .escrows) (c .before .before .loop-test .taken))
+mul-sender c = omega (arith, row-here (c .before .before) .0, row-here (c .before .before) .1)
 
 add-sender : tie.Need-add-sender Inv-loop μ-loop
-add-sender c = omega (arith, c .before .before .before .before .before .before .pre .0 .wide, row-end (c .before .before .before .before .before .before .args .len) (c .before .before .before .before .before .before .args .m) (c .before .before .before .loop .k) (c .before .before .before .before .before .before .args .e .now) (c .before .before .before .before .before .before .pre .0 .escrows) (c .before .before .loop-test .taken))
+add-sender c = omega (arith, row-here (c .before .before) .0, row-here (c .before .before) .1)
 
 mul-sender-2 : tie.Need-mul-sender-2 Inv-loop μ-loop
-mul-sender-2 c = omega (arith, c .before .before .before .before .before .before .pre .0 .wide, row-end (c .before .before .before .before .before .before .args .len) (c .before .before .before .before .before .before .args .m) (c .before .before .before .loop .k) (c .before .before .before .before .before .before .args .e .now) (c .before .before .before .before .before .before .pre .0 .escrows) (c .before .before .loop-test .taken))
+mul-sender-2 c = omega (arith, row-here (c .before .before) .0, row-here (c .before .before) .1)
 
 shared-slice-read-sender : tie.Need-shared-slice-read-sender Inv-loop μ-loop
-shared-slice-read-sender c = omega (arith, c .before .before .before .before .before .before .before .pre .0 .wide, row-end (c .before .before .before .before .before .before .before .args .len) (c .before .before .before .before .before .before .before .args .m) (c .before .before .before .before .loop .k) (c .before .before .before .before .before .before .before .args .e .now) (c .before .before .before .before .before .before .before .pre .0 .escrows) (c .before .before .before .loop-test .taken))
+shared-slice-read-sender c = omega (arith, row-here (c .before .before .before) .0, row-here (c .before .before .before) .1)
 
 mul-sender-3 : tie.Need-mul-sender-3 Inv-loop μ-loop
-mul-sender-3 c = omega (arith, c .before .before .before .before .before .before .before .pre .0 .wide, row-end (c .before .before .before .before .before .before .before .args .len) (c .before .before .before .before .before .before .before .args .m) (c .before .before .before .before .loop .k) (c .before .before .before .before .before .before .before .args .e .now) (c .before .before .before .before .before .before .before .pre .0 .escrows) (c .before .before .before .loop-test .taken))
+mul-sender-3 c = omega (arith, row-here (c .before .before .before) .0, row-here (c .before .before .before) .1)
 
 add-sender-2 : tie.Need-add-sender-2 Inv-loop μ-loop
-add-sender-2 c = omega (arith, c .before .before .before .before .before .before .before .pre .0 .wide, row-end (c .before .before .before .before .before .before .before .args .len) (c .before .before .before .before .before .before .before .args .m) (c .before .before .before .before .loop .k) (c .before .before .before .before .before .before .before .args .e .now) (c .before .before .before .before .before .before .before .pre .0 .escrows) (c .before .before .before .loop-test .taken))
+add-sender-2 c = omega (arith, row-here (c .before .before .before) .0, row-here (c .before .before .before) .1)
 
 mul-sender-4 : tie.Need-mul-sender-4 Inv-loop μ-loop
-mul-sender-4 c = omega (arith, c .before .before .before .before .before .before .before .pre .0 .wide, row-end (c .before .before .before .before .before .before .before .args .len) (c .before .before .before .before .before .before .before .args .m) (c .before .before .before .before .loop .k) (c .before .before .before .before .before .before .before .args .e .now) (c .before .before .before .before .before .before .before .pre .0 .escrows) (c .before .before .before .loop-test .taken))
+mul-sender-4 c = omega (arith, row-here (c .before .before .before) .0, row-here (c .before .before .before) .1)
 
 shared-slice-read-sender-2 : tie.Need-shared-slice-read-sender-2 Inv-loop μ-loop
-shared-slice-read-sender-2 c = omega (arith, c .before .before .before .before .before .before .before .before .pre .0 .wide, row-end (c .before .before .before .before .before .before .before .before .args .len) (c .before .before .before .before .before .before .before .before .args .m) (c .before .before .before .before .before .loop .k) (c .before .before .before .before .before .before .before .before .args .e .now) (c .before .before .before .before .before .before .before .before .pre .0 .escrows) (c .before .before .before .before .loop-test .taken))
+shared-slice-read-sender-2 c = omega (arith, row-here (c .before .before .before .before) .0, row-here (c .before .before .before .before) .1)
 
 sender-requires : tie.Need-sender-requires Inv-loop μ-loop
 sender-requires c κs = search needs
@@ -96,7 +103,7 @@ element-copy-out-sums : tie.Need-element-copy-out-sums Inv-loop μ-loop
 element-copy-out-sums c = omega (arith, numbered c)
 
 held-in-requires : tie.Need-held-in-requires Inv-loop μ-loop
-held-in-requires c κs = (row-end (c .before .before .before .before .before .before .before .before .before .before .before .args .len) (c .before .before .before .before .before .before .before .before .before .before .before .args .m) (c .before .before .before .before .before .before .before .before .loop .k) (c .before .before .before .before .before .before .before .before .before .before .before .args .e .now) (c .before .before .before .before .before .before .before .before .before .before .before .pre .0 .escrows) (c .before .before .before .before .before .before .before .loop-test .taken), c .before .before .before .before .before .before .before .before .before .before .before .pre .0 .wide)
+held-in-requires c κs = row-here (c .before .before .before .before .before .before .before)
 
 add-sums : tie.Need-add-sums Inv-loop μ-loop
 add-sums c =
