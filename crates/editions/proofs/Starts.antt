@@ -51,7 +51,8 @@ started ed h h′ w e r j {b} wide x n p =
     ∙ number-first (ed .header) (ed .number) (omega arith) in
     rw (t, q)
 
--- a header that can be written
-pub header-some : (ed : Edition) (h h′ w e r j : List ℕ) {b : Bool} → HEADER-LEN ≤ ed .header → b ≡ lengthsRight (ledgerOf ed h w e r j) → not b ≡ false
-    → length h′ ≡ length h → 0 < length h′
-header-some ed h h′ w e r j {b} wide x n l = omega (arith, header-length (ledgerOf ed h w e r j) (sym x ∙ not-false-true b n))
+-- the header has all the named words
+pub header-long :
+    (ed : Edition) (h w e r j : List ℕ) {b : Bool} → HEADER-LEN ≤ ed .header → b ≡ lengthsRight (ledgerOf ed h w e r j) → not b ≡ false
+    → HEADER-LEN ≤ length h
+header-long ed h w e r j {b} wide x n = omega (arith, header-length (ledgerOf ed h w e r j) (sym x ∙ not-false-true b n))

@@ -1,5 +1,6 @@
 -- `editions::fresh` meets its contract: a wrong length is answered before anything is touched; else the header is zeros with the edition's number first.
-use Rattle.editions.proofs.Starts.{refused, started, header-some}
+use Rattle.editions.proofs.Starts.{refused, started, header-long}
+use native.Mathlib.Omega.{arith}
 use borrow.Author.Needs.{needs}
 use Rattle.editions.proofs.fresh.Statement.{statement}
 use Rattle.editions.proofs.fresh.Tie as tie
@@ -33,7 +34,7 @@ clear-requires : tie.Need-clear-requires
 clear-requires c κs = search needs
 
 slice-write-header : tie.Need-slice-write-header
-slice-write-header c = header-some _ _ (c .before .before .clear .last .0) _ _ _ _ (c .before .before .before .before .before .before .before .before .before .before .before .before .before .before .before .before .pre .header) (c .before .before .before .before .before .lengths-right .ensures) (c .before .before .before .before .if1 .left) (c .before .before .clear .kept .0)
+slice-write-header c = omega (arith, header-long _ _ _ _ _ _ (c .before .before .before .before .before .before .before .before .before .before .before .before .before .before .before .before .pre .header) (c .before .before .before .before .before .lengths-right .ensures) (c .before .before .before .before .if1 .left), c .before .before .clear .kept .0)
 
 same-length-6 : tie.Need-same-length-6
 same-length-6 c = search needs

@@ -1,7 +1,5 @@
 -- `editions::lookups::escrow_row` meets its contract.
-use mathlib.Core.Path.{sym, subst}
-use Prim.Native.Nat.{ℕ, _≤_}
-use lib.ListN.{length}
+use native.Mathlib.Omega.{arith}
 use Rattle.rules.specs.Limits.{MAX-ESCROWS, ESCROWS}
 use Rattle.rows.proofs.Part.{place-le}
 use Rattle.editions.proofs.Parts.{part-by}
@@ -19,7 +17,7 @@ escrow-place-requires c κs = search needs
 row-part-requires : tie.Need-row-part-requires
 row-part-requires c κs =
     let a = c .before .before .before .args in
-    (search needs, subst (λ (k : ℕ). k ≤ length (a .escrows .now)) (sym (c .escrow-place .ensures)) (place-le (a .edition .header) ESCROWS (a .edition .escrow) MAX-ESCROWS (a .header .now) (a .escrows .now) (a .n .0)))
+    (search needs, omega (arith, place-le (a .edition .header) ESCROWS (a .edition .escrow) MAX-ESCROWS (a .header .now) (a .escrows .now) (a .n .0)))
 
 returns : tie.Need-returns
 returns c =

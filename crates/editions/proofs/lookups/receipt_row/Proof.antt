@@ -1,7 +1,5 @@
 -- `editions::lookups::receipt_row` meets its contract.
-use mathlib.Core.Path.{sym, subst}
-use Prim.Native.Nat.{ℕ, _≤_}
-use lib.ListN.{length}
+use native.Mathlib.Omega.{arith}
 use Rattle.rules.specs.Limits.{RECEIPT-LEN, MAX-RECEIPTS, RECEIPTS}
 use Rattle.rows.proofs.Part.{place-le}
 use Rattle.editions.proofs.Parts.{part-by}
@@ -19,7 +17,7 @@ receipt-place-requires c κs = search needs
 row-part-requires : tie.Need-row-part-requires
 row-part-requires c κs =
     let a = c .before .before .before .args in
-    (search needs, subst (λ (k : ℕ). k ≤ length (a .receipts .now)) (sym (c .receipt-place .ensures)) (place-le (a .edition .header) RECEIPTS RECEIPT-LEN MAX-RECEIPTS (a .header .now) (a .receipts .now) (a .n .0)))
+    (search needs, omega (arith, place-le (a .edition .header) RECEIPTS RECEIPT-LEN MAX-RECEIPTS (a .header .now) (a .receipts .now) (a .n .0)))
 
 returns : tie.Need-returns
 returns c =
