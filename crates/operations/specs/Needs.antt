@@ -1,5 +1,4 @@
 -- What an operation may rely on, over the lent lists alone.
-use mathlib.Core.Path.{_≡_}
 use mathlib.Core.List.{List}
 use Prim.Native.Nat.{ℕ, _+_, _<_, _≤_, _^_}
 use lib.ListN.{length, getD}
