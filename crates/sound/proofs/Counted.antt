@@ -8,7 +8,7 @@ use native.Mathlib.Omega.{arith}
 use lib.Dec.{eqb, leb}
 use lib.ListN.{getD, length}
 use borrow.Author.Tests.{eqb-true, leb-true}
-use Rattle.rules.specs.Limits.{WALLET-LEN, RECEIPT-LEN, JOURNAL-LEN, MAX-WALLETS, MAX-ESCROWS}
+use Rattle.rules.specs.Limits.{HEADER-LEN, WALLET-LEN, RECEIPT-LEN, JOURNAL-LEN, MAX-WALLETS, MAX-ESCROWS}
 use Rattle.rules.specs.Table.{rowsIn, all, tableRight}
 use Rattle.rules.specs.Ledger.{Sized, ledgerOf, lengthTests, lengthsRight, walletCount, escrowCount, receiptCount, entryCount}
 use Rattle.rules.specs.declared.Edition.{Edition}
@@ -30,10 +30,10 @@ module _ (ed : Edition) (h w e r j : List ℕ) (x : (lengthsRight (ledgerOf ed h
   unfolding lengthsRight
   at = all-at (lengthTests (ledgerOf ed h w e r j)) (x .0)
 
-  pub header-length : 8 ≤ length h
+  pub header-length : HEADER-LEN ≤ length h
   header-length = omega (arith, eqb-true (length h) (ed .header) (at 0), x .1 .header)
 
-  pub escrow-row : (ed .escrow) ≤ length e
+  pub escrow-row : ed .escrow ≤ length e
   escrow-row = has-row (ed .escrow) MAX-ESCROWS e (at 2)
 
   module _ (y : all (headerTests (ledgerOf ed h w e r j)) ≡ true) where
