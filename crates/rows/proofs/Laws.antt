@@ -14,7 +14,7 @@ use borrow.Author.Tests.{eq-eqb, ne-eqb}
 use Rattle.rules.specs.Limits.{WALLET-LEN, ID}
 use Rattle.rules.specs.Table.{word, put, putRow}
 use Rattle.rules.specs.Ledger.{rowOf}
-use Rattle.rules.proofs.Seek.{seek-at, seek-not}
+use Rattle.rules.proofs.Seek.{seek-at, seek-not, seek-le}
 
 -- a row's start is small
 pub start : {row len : ℕ} → row < 2 ^ 32 → len < 2 ^ 16 → row * len ≤ 2 ^ 32 * 2 ^ 16
@@ -64,3 +64,8 @@ found t n id i l h x = sym (seek-at n (λ j. eqb (word t WALLET-LEN j ID) id) i 
 pub none : (t : List ℕ) (n id i : ℕ) → n ≤ i → Passed t id i → n ≡ rowOf t n id
 unfolding rowOf Passed
 none t n id i l h = sym (seek-not n (λ j. eqb (word t WALLET-LEN j ID) id) (λ j k. h j (omega arith)))
+
+-- either way it is a row of the table, or the one behind the last
+pub row-most : (t : List ℕ) (n id : ℕ) {r : ℕ} → r ≡ rowOf t n id → r ≤ n
+unfolding rowOf
+row-most t n id x = omega (arith, x, seek-le n (λ j. eqb (word t WALLET-LEN j ID) id))

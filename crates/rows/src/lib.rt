@@ -11,6 +11,8 @@ ghost use Rattle.rows.specs.Part.{placed};
 use rules::limits::ID;
 use rules::limits::WALLET_LEN;
 
+pub mod numbered;
+
 // Word i of a table or header; 0 past the end.
 pub fn at(t: &[u64], i: usize) -> u64
     ensures { λ r. ⌜ r ≡ getD (now (t .entry)) i 0 ⌝ }
