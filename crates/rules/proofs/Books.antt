@@ -16,7 +16,7 @@ use Rattle.rules.specs.Sound.{credits}
 use Rattle.rules.specs.Refusals.{oneOf, paying, closing}
 use Rattle.rules.specs.Settle.{operations, idle, operate, settle, openEscrow, claim}
 use Rattle.rules.specs.Submit.{answerOf, submit}
-use Rattle.rules.specs.History.{Call, submits, reads, writes, asks-status, finds-wallet, finds-escrow, finds-receipt, Said, saidOf, after, said, Book, blank, sayings, says-nothing, enters, bookFrom, bookOf}
+use Rattle.rules.specs.History.{Call, starts-afresh, submits, reads, writes, asks-status, finds-wallet, finds-escrow, finds-receipt, Said, saidOf, Event, begun, after, said, Book, blank, sayings, says-nothing, enters, hears, bookFrom, bookOf}
 use Rattle.rules.specs.Promises.{Lent, started, Adds-up, The-books}
 use Rattle.rules.specs.declared.Submission.{Submission}
 use Rattle.rules.specs.declared.Read.{Read}
@@ -27,6 +27,7 @@ use Rattle.rules.proofs.Accounts.{bal, bal-found, bal-missing, own}
 use Rattle.rules.proofs.Good.{Good, good-of}
 use Rattle.rules.proofs.Calls.{by-answer, settled, header-length, read-formed, Formed, formed-says, by-op}
 use Rattle.rules.proofs.Passed.{sender-row, sender-has, target-some, escrow-row, escrow-open, receipt-row, wallet-place, escrow-place, receipt-place}
+use Rattle.rules.proofs.Demand12.{fresh-zero}
 use Rattle.rules.proofs.Lengths.{lengths-submit, lent-stays, lent-started}
 use Rattle.rules.proofs.Agree.{Fits}
 use Rattle.rules.proofs.Changes.{fits-make, fits-clock, fits-enter}
@@ -90,32 +91,7 @@ module _ (L : Ledger) (r : Read) (B : Book) (lent : Lent L) (f : Fits L B) (z : 
       (λ e. fits-freeze s L B f)
       (λ e. fits-caps s L B f)
 
--- ---- one call, and a list of calls
-
-fits-call : (L : Ledger) (b : List ℕ) (B : Book) → Lent L → Fits L B → Fits (submit L b .left) (enters (saidOf b (submit L b)) B)
-unfolding enters settle
-fits-call L b B lent f =
-    by-answer (λ (o : Outcome). Fits (o .left) (enters (saidOf b o) B)) L b
-    (λ e.
-    fits-enter z (operate z L .word) _ _
-    (fits-clock (z .now) _ _ (fits-operate L (readOf b) B lent f e (formed-says z (read-formed b (settled L (readOf b) e .formed))))))
-    (λ ne. cond-case (Fits L) (eqb (answerOf L (readOf b)) 0) _ B (λ e. absurd (ne (eqb-true (answerOf L (readOf b)) 0 e))) (λ e. f))
-  where
-    z : Submission
-    z = readOf b .submission
-
-pub fits-all : (L : Ledger) (B : Book) → Lent L → Fits L B → (calls : List Call) → Fits (after L calls) (bookFrom B (said L calls))
-fits-all L B lent f [] = f
-fits-all L B lent f (submits b ∷ cs) =
-    fits-all (submit L b .left) (enters (saidOf b (submit L b)) B) (lent-stays (lengths-submit L b) lent) (fits-call L b B lent f) cs
-fits-all L B lent f (reads b ∷ cs) = fits-all L B lent f cs
-fits-all L B lent f (writes s out ∷ cs) = fits-all L B lent f cs
-fits-all L B lent f (asks-status n ∷ cs) = fits-all L B lent f cs
-fits-all L B lent f (finds-wallet id ∷ cs) = fits-all L B lent f cs
-fits-all L B lent f (finds-escrow k ∷ cs) = fits-all L B lent f cs
-fits-all L B lent f (finds-receipt k ∷ cs) = fits-all L B lent f cs
-
--- ---- the theorem
+-- ---- starting afresh
 
 none : (i : ℕ) → i < 0 → ⊥
 none i l = omega arith
@@ -147,7 +123,39 @@ fits-fresh L h =
     }))
     (λ e. absurd (true≢false (sym h ∙ e)))
 
-pub adds-up : (L : Ledger) (es : List Said) → Fits L (bookOf es) → Adds-up L es
+-- so the book begins again with the ledger
+fits-begun : (L : Ledger) (B : Book) → Lent L → Fits (started L) (hears (begun (fresh L .number)) B)
+fits-begun L B lent = subst (λ (n : ℕ). Fits (started L) (hears (begun n) B)) (sym (fresh-zero L (lent .lengths))) (fits-fresh L (lent .lengths))
+
+-- ---- one call, and a list of calls
+
+fits-call : (L : Ledger) (b : List ℕ) (B : Book) → Lent L → Fits L B → Fits (submit L b .left) (enters (saidOf b (submit L b)) B)
+unfolding enters settle
+fits-call L b B lent f =
+    by-answer (λ (o : Outcome). Fits (o .left) (enters (saidOf b o) B)) L b
+    (λ e.
+    fits-enter z (operate z L .word) _ _
+    (fits-clock (z .now) _ _ (fits-operate L (readOf b) B lent f e (formed-says z (read-formed b (settled L (readOf b) e .formed))))))
+    (λ ne. cond-case (Fits L) (eqb (answerOf L (readOf b)) 0) _ B (λ e. absurd (ne (eqb-true (answerOf L (readOf b)) 0 e))) (λ e. f))
+  where
+    z : Submission
+    z = readOf b .submission
+
+pub fits-all : (L : Ledger) (B : Book) → Lent L → Fits L B → (calls : List Call) → Fits (after L calls) (bookFrom B (said L calls))
+fits-all L B lent f [] = f
+fits-all L B lent f (starts-afresh ∷ cs) = fits-all (started L) (hears (begun (fresh L .number)) B) (lent-started L lent) (fits-begun L B lent) cs
+fits-all L B lent f (submits b ∷ cs) =
+    fits-all (submit L b .left) (enters (saidOf b (submit L b)) B) (lent-stays (lengths-submit L b) lent) (fits-call L b B lent f) cs
+fits-all L B lent f (reads b ∷ cs) = fits-all L B lent f cs
+fits-all L B lent f (writes s out ∷ cs) = fits-all L B lent f cs
+fits-all L B lent f (asks-status n ∷ cs) = fits-all L B lent f cs
+fits-all L B lent f (finds-wallet id ∷ cs) = fits-all L B lent f cs
+fits-all L B lent f (finds-escrow k ∷ cs) = fits-all L B lent f cs
+fits-all L B lent f (finds-receipt k ∷ cs) = fits-all L B lent f cs
+
+-- ---- the theorem
+
+pub adds-up : (L : Ledger) (es : List Event) → Fits L (bookOf es) → Adds-up L es
 unfolding credits
 adds-up L es f =
     let t : List ℕ = L .wallets in

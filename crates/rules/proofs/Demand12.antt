@@ -3,22 +3,22 @@
 use mathlib.Core.Path.{_≡_, refl, sym, ap, _∙_, subst}
 use mathlib.Core.Logic.{_≢_, _⊎_, inl, inr}
 use mathlib.Core.List.{List, []}
-use mathlib.Core.Bool.{Bool, true, not, _&&_}
+use mathlib.Core.Bool.{Bool, true, false, cond, not, _&&_}
 use Prim.Native.Nat.{ℕ, _+_, _-_, _*_, _≤_, _<_}
 use native.Mathlib.Omega.{arith}
 use lib.ListN.{getD, length, take, drop, length-take, length-drop}
 use lib.Seq.{drop-length, take-nil}
-use lib.Dec.{eqb, ltb, leb}
+use lib.Dec.{eqb, ltb, leb, lit≤}
 use borrow.Author.Tests.{ltb-true, leb-true}
 use Rattle.rules.specs.Limits.{RECORD-BYTES, WALLETS, ESCROWS, RECEIPTS, WALLET-LEN, RECEIPT-LEN, MAX-WALLETS, MAX-ESCROWS, MAX-RECEIPTS}
 use Rattle.rules.specs.Table.{rowsIn, tableRight}
-use Rattle.rules.specs.Ledger.{Outcome, outcome, rowOf, written, lengthsRight, fresh, freshHeader, setHeader}
+use Rattle.rules.specs.Ledger.{Ledger, Outcome, outcome, rowOf, written, lengthsRight, fresh, freshHeader, setHeader}
 use Rattle.rules.specs.Record.{wellFormed, encode, accepted, decode, readOf, nothing, Written, writeOf}
 use Rattle.rules.specs.Refusals.{refusals}
 use Rattle.rules.specs.Settle.{settle}
 use Rattle.rules.specs.Submit.{answerOf}
 use Rattle.rules.specs.Lookup.{countRight, rowPlace, partAt, walletNumber}
-use Rattle.rules.specs.Promises.{IsFirst, On-the-list, Refusal-changes-nothing, Fresh-answers, Read-answers, Write-answers}
+use Rattle.rules.specs.Promises.{started, IsFirst, On-the-list, Refusal-changes-nothing, Some-are-lent, Fresh-answers, Read-answers, Write-answers}
 use Rattle.rules.specs.Promises.{Part-answers, Settles-exactly, First-refusal, Laid-down}
 use Rattle.rules.specs.declared.Read.{Read}
 use Rattle.rules.proofs.Bools.{and-fst, and-snd, cond-case}
@@ -45,8 +45,34 @@ refusal-changes-nothing L b ne = record {
 pub fresh-answers : Fresh-answers
 unfolding fresh
 fresh-answers L =
-    cond-case (λ (o : Outcome). ((o .number ≡ 0) × (o .word ≡ 0)) ⊎ ((o .number ≡ 1) × (o .word ≡ 0) × (o .left ≡ L))) (lengthsRight L)
-    (outcome 0 0 (setHeader (freshHeader (L .edition)) L)) (outcome 1 0 L) (λ e. inl (refl, refl)) (λ e. inr (refl, refl, refl))
+    cond-case
+    (λ (o : Outcome). ((lengthsRight L ≡ true) × (o ≡ outcome 0 0 (setHeader (freshHeader (L .edition)) L))) ⊎ ((lengthsRight L ≡ false) × (o ≡ outcome 1 0 L)))
+    (lengthsRight L) (outcome 0 0 (setHeader (freshHeader (L .edition)) L)) (outcome 1 0 L) (λ e. inl (e, refl)) (λ e. inr (e, refl))
+
+-- so the lengths are right exactly if the answer is 0
+pub fresh-right : (L : Ledger) → fresh L .number ≡ 0 → lengthsRight L ≡ true
+fresh-right L z = go (fresh-answers L)
+  where
+    some : _≢_ {A = ℕ} 1 0
+    some e = omega (arith, e)
+
+    go : ((lengthsRight L ≡ true) × (fresh L ≡ outcome 0 0 (setHeader (freshHeader (L .edition)) L))) ⊎ ((lengthsRight L ≡ false) × (fresh L ≡ outcome 1 0 L)) → lengthsRight L ≡ true
+    go (inl x) = x .0
+    go (inr x) = absurd (some (sym (ap (λ (o : Outcome). o .number) (x .1)) ∙ z))
+
+pub fresh-zero : (L : Ledger) → lengthsRight L ≡ true → fresh L .number ≡ 0
+unfolding fresh
+fresh-zero L h = ap (λ (b : Bool). cond b (outcome 0 0 (setHeader (freshHeader (L .edition)) L)) (outcome 1 0 L) .number) h
+
+pub fresh-refused : (L : Ledger) → fresh L .number ≢ 0 → started L ≡ L
+unfolding fresh
+fresh-refused L =
+    cond-case (λ (o : Outcome). o .number ≢ 0 → o .left ≡ L) (lengthsRight L) (outcome 0 0 (setHeader (freshHeader (L .edition)) L)) (outcome 1 0 L)
+    (λ e n. absurd (n refl)) (λ e n. refl)
+
+pub some-are-lent : Some-are-lent
+unfolding lengthsRight
+some-are-lent = record { lengths = refl; header = lit≤ tt; escrow = lit≤ tt }
 
 pub read-answers : Read-answers
 unfolding readOf

@@ -3,31 +3,31 @@
 -- which no other settled submission has.
 use mathlib.Core.Path.{_≡_, refl, sym, ap, ap₂, _∙_, subst}
 use mathlib.Core.Logic.{_≢_}
-use mathlib.Core.List.{List, [], _∷_}
-use mathlib.Core.Bool.{true, _&&_, true≢false}
+use mathlib.Core.List.{List, [], _∷_, _++_}
+use mathlib.Core.Bool.{true, not, _&&_, true≢false}
 use Prim.Native.Nat.{ℕ, _+_, _*_, _≤_, _<_}
 use native.Mathlib.Omega.{arith}
 use lib.ListN.{getD, length}
 use lib.Seq.{getD-set-same}
 use lib.Dec.{eqb, lit<}
-use borrow.Author.Tests.{eqb-true, eq-eqb}
-use Rattle.rules.specs.Limits.{JOURNAL-LEN, ENTRIES, SIGNER, NONCE, SWEEP}
+use borrow.Author.Tests.{eqb-true, eqb-false, eq-eqb}
+use Rattle.rules.specs.Limits.{HEADER-LEN, JOURNAL-LEN, ENTRIES, SIGNER, NONCE, SWEEP}
 use Rattle.rules.specs.Table.{word, some, rowsIn}
-use Rattle.rules.specs.Ledger.{Edition, Ledger, entry, entryCount, putHead, newEntry}
+use Rattle.rules.specs.Ledger.{Edition, Ledger, entry, entryCount, putHead, newEntry, fresh}
 use Rattle.rules.specs.Record.{readOf}
 use Rattle.rules.specs.Refusals.{seenIn, seen}
 use Rattle.rules.specs.Settle.{enter, settle}
 use Rattle.rules.specs.Submit.{answerOf, submit}
-use Rattle.rules.specs.History.{Call, leaves, after}
-use Rattle.rules.specs.Promises.{Replay-guard}
+use Rattle.rules.specs.History.{Call, starts-afresh, Event, submitted, begun, leaves, says, after, said, unbroken}
+use Rattle.rules.specs.Promises.{started, Replay-guard}
 use Rattle.rules.specs.declared.Submission.{Submission}
-use Rattle.rules.proofs.Bools.{cond-case}
+use Rattle.rules.proofs.Bools.{and-fst, and-snd, and-intro, not-true-false, cond-case}
 use Rattle.rules.proofs.Rows.{room, word-new, word-old}
 use Rattle.rules.proofs.Counts.{some-of, some-mono}
 use Rattle.rules.proofs.Calls.{by-left, number-is, settled, header-length, Formed, formed-says, read-formed, settled-signed}
-use Rattle.rules.proofs.Demand12.{refusal-changes-nothing}
+use Rattle.rules.proofs.Demand12.{fresh-refused, refusal-changes-nothing}
 use Rattle.rules.proofs.Keeps.{Keeps, beforeEntry, keeps-before}
-use Rattle.rules.proofs.Lengths.{lengths-submit, lengths-stay, by-call}
+use Rattle.rules.proofs.Lengths.{lengths-submit, lengths-call, by-call}
 
 -- ---- a new journal row is seen, and hides none
 
@@ -80,22 +80,40 @@ module _ (s : Submission) (L : Ledger) (wide : ENTRIES < length (L .header)) whe
 
 -- ---- calls
 
-wide-of : (L : Ledger) (b : List ℕ) → answerOf L (readOf b) ≡ 0 → 8 ≤ L .edition .header → ENTRIES < length (L .header)
+wide-of : (L : Ledger) (b : List ℕ) → answerOf L (readOf b) ≡ 0 → HEADER-LEN ≤ L .edition .header → ENTRIES < length (L .header)
 wide-of L b e h = omega (arith, header-length L (settled L (readOf b) e .lengths))
 
--- what was seen is seen after any calls
-seen-submit : (L : Ledger) → 8 ≤ L .edition .header → (g n : ℕ) → seen L g n ≡ true → (b : List ℕ) → seen (submit L b .left) g n ≡ true
+-- no start in the whole history is none in either part
+unbroken-parts : (xs ys : List Event) → unbroken (xs ++ ys) ≡ true → (unbroken xs ≡ true) × (unbroken ys ≡ true)
+unbroken-parts [] ys u = (refl, u)
+unbroken-parts (submitted e ∷ xs) ys u = unbroken-parts xs ys u
+unbroken-parts (begun n ∷ xs) ys u =
+    let both = unbroken-parts xs ys (and-snd (not (eqb n 0)) (unbroken (xs ++ ys)) u) in
+    (and-intro (not (eqb n 0)) (unbroken xs) (and-fst (not (eqb n 0)) (unbroken (xs ++ ys)) u) (both .0), both .1)
+
+-- what was seen is seen after any calls that do not start afresh
+seen-submit : (L : Ledger) → HEADER-LEN ≤ L .edition .header → (g n : ℕ) → seen L g n ≡ true → (b : List ℕ) → seen (submit L b .left) g n ≡ true
 seen-submit L h g n x b =
     by-left (λ (K : Ledger). seen K g n ≡ true) L b (λ e. seen-stays (readOf b .submission) L (wide-of L b e h) g n x) (λ e. x)
 
-pub seen-after : (L : Ledger) → 8 ≤ L .edition .header → (calls : List Call) (g n : ℕ) → seen L g n ≡ true → seen (after L calls) g n ≡ true
-seen-after L h [] g n x = x
-seen-after L h (c ∷ cs) g n x =
-    seen-after (leaves L c) (subst (λ (e : Edition). 8 ≤ e .header) (sym (lengths-stay L (c ∷ []) .edition)) h) cs g n
-    (by-call (λ (K : Ledger). seen K g n ≡ true) L x (seen-submit L h g n x) c)
+-- and after a start afresh that is refused
+seen-started : (L : Ledger) (g n : ℕ) → seen L g n ≡ true → unbroken (says L starts-afresh) ≡ true → seen (started L) g n ≡ true
+seen-started L g n x u =
+    subst (λ (K : Ledger). seen K g n ≡ true)
+    (sym (fresh-refused L (eqb-false (fresh L .number) 0 (not-true-false (eqb (fresh L .number) 0) (and-fst (not (eqb (fresh L .number) 0)) true u))))) x
+
+pub seen-after : (L : Ledger) → HEADER-LEN ≤ L .edition .header → (calls : List Call) (g n : ℕ) → seen L g n ≡ true → unbroken (said L calls) ≡ true
+    → seen (after L calls) g n ≡ true
+seen-after L h [] g n x u = x
+seen-after L h (c ∷ cs) g n x u =
+    let both = unbroken-parts (says L c) (said (leaves L c) cs) u in
+    seen-after (leaves L c) (subst (λ (e : Edition). HEADER-LEN ≤ e .header) (sym (lengths-call L h c .edition)) h) cs g n
+    (by-call (λ (K : Ledger). seen K g n ≡ true) L x (seen-submit L h g n x) c
+    (λ e. seen-started L g n x (subst (λ (d : Call). unbroken (says L d) ≡ true) e (both .0))))
+    (both .1)
 
 pub replay-guard : Replay-guard
-replay-guard L h b between c zero-b not-sweep same-signer same-nonce =
+replay-guard L h b between c zero-b not-sweep unbroken-between same-signer same-nonce =
     refusal-changes-nothing N c (λ z. never (sym (number-is N c) ∙ z))
   where
     s : Submission
@@ -119,7 +137,7 @@ replay-guard L h b between c zero-b not-sweep same-signer same-nonce =
         (λ e. seen-itself s L (wide-of L b e h) not-sweep (settled-signed L (readOf b) e form not-sweep .place)) (λ e. absurd (e ok))
 
     seen-N : seen N (s .signer) (s .nonce) ≡ true
-    seen-N = seen-after M (subst (λ (e : Edition). 8 ≤ e .header) (sym (lengths-submit L b .edition)) h) between (s .signer) (s .nonce) seen-M
+    seen-N = seen-after M (subst (λ (e : Edition). HEADER-LEN ≤ e .header) (sym (lengths-submit L b .edition)) h) between (s .signer) (s .nonce) seen-M unbroken-between
 
     never : answerOf N (readOf c) ≢ 0
     never e =

@@ -36,7 +36,7 @@ use Rattle.rules.proofs.Refused.{first-holds}
 use Rattle.rules.proofs.Calls.{by-left, number-is, settled, header-length, Formed, formed-says, read-formed, settled-signed}
 use Rattle.rules.proofs.Passed.{amount-low, amount-high}
 use Rattle.rules.proofs.Keeps.{Keeps, beforeEntry, keeps-before}
-use Rattle.rules.proofs.Lengths.{by-call, lengths-submit, lent-stays, lent-started}
+use Rattle.rules.proofs.Lengths.{by-call, lent-call, lent-started}
 
 -- what is tested of a journal row, by its time, its operation and its amount
 abbrev entryRight : ℕ → ℕ → ℕ → Bool
@@ -214,8 +214,7 @@ sound-started L lent =
 sound-after : (L : Ledger) → Lent L → sound L ≡ true → (calls : List Call) → sound (after L calls) ≡ true
 sound-after L lent h [] = h
 sound-after L lent h (c ∷ cs) =
-    sound-after (leaves L c) (by-call Lent L lent (λ b. lent-stays (lengths-submit L b) lent) c)
-    (by-call (λ (K : Ledger). sound K ≡ true) L h (sound-settles L lent h) c) cs
+    sound-after (leaves L c) (lent-call L lent c) (by-call (λ (K : Ledger). sound K ≡ true) L h (sound-settles L lent h) c (λ e. sound-started L lent)) cs
 
 pub sound-always : Sound-always
 sound-always L lent calls = sound-after (started L) (lent-started L lent) (sound-started L lent) calls

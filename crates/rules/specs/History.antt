@@ -1,20 +1,20 @@
 -- Demand 3: calls on a ledger in the order made, what they leave, what was said; and the book that submissions and answers make of
--- themselves, with no table read.
+-- themselves, with no table read. Starting afresh begins the book again.
 use mathlib.Core.List.{List, [], _∷_, _++_}
-use mathlib.Core.Bool.{Bool, true, false, cond, _&&_}
+use mathlib.Core.Bool.{Bool, true, false, cond, not, _&&_}
 use Prim.Native.Nat.{ℕ, _+_, _-_}
 use lib.ListN.{getD}
 use lib.Dec.{eqb, ltb, leb}
 use Rattle.rules.specs.Limits.{AUTO-OR-FREEZE}
 use Rattle.rules.specs.Table.{loop}
-use Rattle.rules.specs.Ledger.{Ledger, Outcome}
+use Rattle.rules.specs.Ledger.{Ledger, Outcome, fresh}
 use Rattle.rules.specs.Record.{readOf, bit}
 use Rattle.rules.specs.Submit.{submit}
 use Rattle.rules.specs.declared.Submission.{Submission}
-use Rattle.rules.specs.declared.Read.{Read}
 
--- A public call. Starting afresh is not among them: it begins a history.
+-- a public call
 pub data Call : Type 0 where
+  starts-afresh : Call
   submits : List ℕ → Call
   reads : List ℕ → Call
   writes : Submission → List ℕ → Call
@@ -32,8 +32,14 @@ pub record Said : Type 0 where
 abbrev pub saidOf : List ℕ → Outcome → Said
 saidOf bytes o = record { submission = readOf bytes .submission; number = o .number; word = o .word }
 
--- one call: the ledger that it leaves, and what was said; only a submission changes and says anything
+-- what a call adds to the history: a submission and its answer, or the answer to a start afresh
+pub data Event : Type 0 where
+  submitted : Said → Event
+  begun : ℕ → Event
+
+-- one call: the ledger that it leaves, and what was said; a read, a write, a status and a lookup change and say nothing
 abbrev pub leaves : Ledger → Call → Ledger
+leaves L starts-afresh = fresh L .left
 leaves L (submits b) = submit L b .left
 leaves L (reads b) = L
 leaves L (writes s out) = L
@@ -42,8 +48,9 @@ leaves L (finds-wallet id) = L
 leaves L (finds-escrow k) = L
 leaves L (finds-receipt k) = L
 
-abbrev pub says : Ledger → Call → List Said
-says L (submits b) = saidOf b (submit L b) ∷ []
+abbrev pub says : Ledger → Call → List Event
+says L starts-afresh = begun (fresh L .number) ∷ []
+says L (submits b) = submitted (saidOf b (submit L b)) ∷ []
 says L (reads b) = []
 says L (writes s out) = []
 says L (asks-status n) = []
@@ -56,9 +63,15 @@ abbrev pub after : Ledger → List Call → Ledger
 after L [] = L
 after L (c ∷ cs) = after (leaves L c) cs
 
-abbrev pub said : Ledger → List Call → List Said
+abbrev pub said : Ledger → List Call → List Event
 said L [] = []
 said L (c ∷ cs) = says L c ++ said (leaves L c) cs
+
+-- no start afresh was answered 0
+abbrev pub unbroken : List Event → Bool
+unbroken [] = true
+unbroken (begun n ∷ es) = not (eqb n 0) && unbroken es
+unbroken (submitted e ∷ es) = unbroken es
 
 -- what an open says of its escrow, and a claim of its receipt
 pub record Deal : Type 0 where
@@ -265,9 +278,14 @@ sayings =
 unfoldable pub enters : Said → Book → Book
 enters e B = cond (eqb (e .number) 0) (getD sayings (e .submission .op - 1) says-nothing e B) B
 
-abbrev pub bookFrom : Book → List Said → Book
-bookFrom B [] = B
-bookFrom B (e ∷ es) = bookFrom (enters e B) es
+-- a start afresh that is answered 0 begins the book again
+abbrev pub hears : Event → Book → Book
+hears (begun n) B = cond (eqb n 0) blank B
+hears (submitted e) B = enters e B
 
-abbrev pub bookOf : List Said → Book
+abbrev pub bookFrom : Book → List Event → Book
+bookFrom B [] = B
+bookFrom B (e ∷ es) = bookFrom (hears e B) es
+
+abbrev pub bookOf : List Event → Book
 bookOf es = bookFrom blank es

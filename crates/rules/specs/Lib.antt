@@ -13,4 +13,5 @@ pub mod Status
 pub mod History
 pub mod Due
 pub mod Promises
+pub mod Runs
 pub mod Cases

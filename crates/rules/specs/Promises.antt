@@ -4,28 +4,35 @@ use mathlib.Core.Logic.{_≢_, _⊎_}
 use mathlib.Core.List.{List, [], _∷_, _++_}
 use mathlib.Core.Bool.{Bool, true, false, not, _&&_}
 use Prim.Native.Nat.{ℕ, _+_, _≤_, _<_, _^_, min}
-use lib.ListN.{getD, length}
-use Rattle.rules.specs.Limits.{WALLET-LEN, RECEIPT-LEN, JOURNAL-LEN, RECORD-BYTES, ID, BALANCE, LOCKED, SWEEP}
+use lib.ListN.{getD, length, replicate}
+use Rattle.rules.specs.Limits.{HEADER-LEN, WALLET-LEN, ESCROW-LEN, RECEIPT-LEN, JOURNAL-LEN, RECORD-BYTES, ID, BALANCE, LOCKED, SWEEP}
 use Rattle.rules.specs.Table.{rowsIn}
-use Rattle.rules.specs.Ledger.{Edition, Ledger, Outcome, outcome, wallet, walletCount, escrowCount, receiptCount, entryCount, hasWallet, lengthsRight, fresh}
-use Rattle.rules.specs.Record.{wellFormed, encode, readOf, nothing, Written, writeOf}
+use Rattle.rules.specs.Ledger.{Edition, Ledger, ledger, outcome, wallet, walletCount, escrowCount, receiptCount, entryCount, hasWallet, setHeader, lengthsRight, freshHeader, fresh}
+use Rattle.rules.specs.Record.{readOf, nothing, writeOf}
 use Rattle.rules.specs.Sound.{sound, credits}
 use Rattle.rules.specs.Refusals.{Refusal, row, refusals}
 use Rattle.rules.specs.Settle.{settle, swept}
 use Rattle.rules.specs.Submit.{submit}
 use Rattle.rules.specs.Lookup.{escrowPart, receiptPart, walletNumber}
-use Rattle.rules.specs.History.{Call, submits, Said, saidOf, after, said, Book, bookOf}
+use Rattle.rules.specs.History.{Call, Event, after, said, unbroken, bookOf}
 use Rattle.rules.specs.Due.{due, firstDueClosed}
 use Rattle.rules.specs.declared.Submission.{Submission}
-use Rattle.rules.specs.declared.Read.{Read}
 
 -- ---- What is spoken of
 
 -- lent tables of right lengths, whatever their words, of an edition that has all the named words
 pub record Lent (L : Ledger) : Type 0 where
   pub lengths : lengthsRight L ≡ true
-  pub header : 8 ≤ L .edition .header
-  pub escrow : 8 ≤ L .edition .escrow
+  pub header : HEADER-LEN ≤ L .edition .header
+  pub escrow : ESCROW-LEN ≤ L .edition .escrow
+
+-- there are such tables: those of one row each
+abbrev pub one-row : Ledger
+one-row =
+    ledger (replicate HEADER-LEN 0) (replicate WALLET-LEN 0) (replicate ESCROW-LEN 0) (replicate RECEIPT-LEN 0) (replicate JOURNAL-LEN 0)
+
+abbrev pub Some-are-lent : Type 0
+Some-are-lent = Lent one-row
 
 abbrev pub started : Ledger → Ledger
 started L = fresh L .left
@@ -56,8 +63,12 @@ On-the-list = (L : Ledger) (b : List ℕ) → submit L b .number ≤ 40
 abbrev pub Refusal-changes-nothing : Type 0
 Refusal-changes-nothing = (L : Ledger) (b : List ℕ) → submit L b .number ≢ 0 → Refused L b
 
+-- the lengths are right and the header is the edition's number and zeros, or they are not and nothing is changed
 abbrev pub Fresh-answers : Type 0
-Fresh-answers = (L : Ledger) → ((fresh L .number ≡ 0) × (fresh L .word ≡ 0)) ⊎ ((fresh L .number ≡ 1) × (fresh L .word ≡ 0) × (fresh L .left ≡ L))
+Fresh-answers =
+    (L : Ledger) →
+    ((lengthsRight L ≡ true) × (fresh L ≡ outcome 0 0 (setHeader (freshHeader (L .edition)) L)))
+    ⊎ ((lengthsRight L ≡ false) × (fresh L ≡ outcome 1 0 L))
 
 abbrev pub Read-answers : Type 0
 Read-answers = (b : List ℕ) → (readOf b .number ≡ 0) ⊎ ((readOf b .number ≡ 3) × (readOf b .submission ≡ nothing))
@@ -90,15 +101,15 @@ Laid-down =
 
 -- a sweep counts the smaller of its limit and the due rows before the call, and closes the first of those in order
 abbrev pub Sweep-counts : Type 0
-Sweep-counts = (now limit : ℕ) (L : Ledger) → 8 ≤ L .edition .escrow → swept now limit L .closed ≡ min limit (due L now)
+Sweep-counts = (now limit : ℕ) (L : Ledger) → ESCROW-LEN ≤ L .edition .escrow → swept now limit L .closed ≡ min limit (due L now)
 
 abbrev pub Sweep-answers : Type 0
 Sweep-answers =
-    (L : Ledger) (b : List ℕ) → 8 ≤ L .edition .escrow → submit L b .number ≡ 0 → readOf b .submission .op ≡ SWEEP →
+    (L : Ledger) (b : List ℕ) → ESCROW-LEN ≤ L .edition .escrow → submit L b .number ≡ 0 → readOf b .submission .op ≡ SWEEP →
     submit L b .word ≡ min (readOf b .submission .amount) (due L (readOf b .submission .now))
 
 abbrev pub Sweep-closes : Type 0
-Sweep-closes = (now limit : ℕ) (L : Ledger) → 8 ≤ L .edition .escrow → swept now limit L .tables ≡ firstDueClosed now limit L
+Sweep-closes = (now limit : ℕ) (L : Ledger) → ESCROW-LEN ≤ L .edition .escrow → swept now limit L .tables ≡ firstDueClosed now limit L
 
 -- the fields fit the record's bytes and words, as every value of the struct does
 pub record Fields (s : Submission) : Type 0 where
@@ -133,16 +144,17 @@ Read-written =
 
 -- ---- Demand 3: from a fresh ledger, over any list of calls in the order made
 
--- THE RETRY. Once a submission other than a sweep has settled, no later one with its signer and nonce changes anything.
+-- THE RETRY. Once a submission other than a sweep has settled, no later one with its signer and nonce changes anything, as long as the ledger
+-- is not started afresh.
 abbrev pub Replay-guard : Type 0
 Replay-guard =
-    (L : Ledger) → 8 ≤ L .edition .header → (b : List ℕ) (between : List Call) (c : List ℕ) →
-    submit L b .number ≡ 0 → readOf b .submission .op ≢ SWEEP →
+    (L : Ledger) → HEADER-LEN ≤ L .edition .header → (b : List ℕ) (between : List Call) (c : List ℕ) →
+    submit L b .number ≡ 0 → readOf b .submission .op ≢ SWEEP → unbroken (said (submit L b .left) between) ≡ true →
     readOf c .submission .signer ≡ readOf b .submission .signer → readOf c .submission .nonce ≡ readOf b .submission .nonce →
     Refused (after (submit L b .left) between) c
 
 -- what the tables have is what the submissions and answers say
-pub record Adds-up (L : Ledger) (es : List Said) : Type 0 where
+pub record Adds-up (L : Ledger) (es : List Event) : Type 0 where
   pub balance :
       (i : ℕ) → i < walletCount L → wallet L i BALANCE + bookOf es .went (wallet L i ID) ≡ bookOf es .came (wallet L i ID)
   pub held : (i : ℕ) → i < walletCount L → wallet L i LOCKED + bookOf es .freed (wallet L i ID) ≡ bookOf es .held (wallet L i ID)
@@ -174,7 +186,7 @@ pub record Same-lengths (K L : Ledger) : Type 0 where
   pub journal : length (K .journal) ≡ length (L .journal)
 
 abbrev pub Lengths-stay : Type 0
-Lengths-stay = (L : Ledger) (calls : List Call) → Same-lengths (after L calls) L
+Lengths-stay = (L : Ledger) → HEADER-LEN ≤ L .edition .header → (calls : List Call) → Same-lengths (after L calls) L
 
 pub record Within (L : Ledger) : Type 0 where
   pub wallets : walletCount L ≤ rowsIn WALLET-LEN (L .wallets)
@@ -184,41 +196,3 @@ pub record Within (L : Ledger) : Type 0 where
 
 abbrev pub Rows-stay-within : Type 0
 Rows-stay-within = (L : Ledger) → Lent L → (calls : List Call) → Within (after (started L) calls)
-
--- ---- From the code to these statements
-
--- what one call of the code showed: the bytes lent to it, its answer, and the tables as it left them
-pub record Result : Type 0 where
-  pub bytes : List ℕ
-  pub number : ℕ
-  pub word : ℕ
-  pub left : Ledger
-
--- each result meets the contract of `ledger::submit` on the tables that the one before it left
-abbrev pub Meets : Ledger → List Result → Type 0
-Meets L [] = Unit {0}
-Meets L (r ∷ rs) = (outcome (r .number) (r .word) (r .left) ≡ submit L (r .bytes)) × Meets (r .left) rs
-
-abbrev pub lastOf : Ledger → List Result → Ledger
-lastOf L [] = L
-lastOf L (r ∷ rs) = lastOf (r .left) rs
-
-abbrev pub saidBy : List Result → List Said
-saidBy [] = []
-saidBy (r ∷ rs) = record { submission = readOf (r .bytes) .submission; number = r .number; word = r .word } ∷ saidBy rs
-
--- so whatever a run of the code from a fresh ledger showed adds up, and keeps the ledger sound
-abbrev pub Runs-add-up : Type 0
-Runs-add-up =
-    (L : Ledger) → Lent L → (results : List Result) → Meets (started L) results →
-    Adds-up (lastOf (started L) results) (saidBy results) × (sound (lastOf (started L) results) ≡ true)
-
--- and no retry settles: of two results of a run with one signer and nonce, the first settled and no sweep, the later one is a refusal
-abbrev pub Runs-refuse-retries : Type 0
-Runs-refuse-retries =
-    (L : Ledger) → 8 ≤ L .edition .header → (first : Result) (between : List Result) (again : Result) →
-    Meets L (first ∷ (between ++ (again ∷ []))) →
-    first .number ≡ 0 → readOf (first .bytes) .submission .op ≢ SWEEP →
-    readOf (again .bytes) .submission .signer ≡ readOf (first .bytes) .submission .signer →
-    readOf (again .bytes) .submission .nonce ≡ readOf (first .bytes) .submission .nonce →
-    (again .number ≢ 0) × (again .word ≡ 0) × (again .left ≡ lastOf (first .left) between)
