@@ -1,5 +1,4 @@
--- The reader and the writer as wholes, over plain values: what they answer from what their parts found. And any two answers that their
--- contracts permit are equal.
+-- The reader and the writer as wholes, over plain values: what they answer from what their parts found.
 use mathlib.Core.Path.{_≡_, sym, _∙_, subst}
 use mathlib.Core.List.{List}
 use mathlib.Core.Bool.{Bool, true, false, cond, _&&_}
@@ -71,10 +70,3 @@ pub write-malformed : (s : Submission) (out : List ℕ) {w : Bool} → length ou
     → record { number = 3; out = out } ≡ writeOf s out
 unfolding writeOf
 write-malformed s out l y t = rw (eq-eqb (length out) RECORD-BYTES l, ← y, t)
-
--- ---- any two permitted answers
-pub one-read : (b : List ℕ) (r₁ r₂ : Read) → r₁ ≡ readOf b → r₂ ≡ readOf b → r₁ ≡ r₂
-one-read b r₁ r₂ p q = p ∙ sym q
-
-pub one-written : (s : Submission) (out : List ℕ) (w₁ w₂ : Written) → w₁ ≡ writeOf s out → w₂ ≡ writeOf s out → w₁ ≡ w₂
-one-written s out w₁ w₂ p q = p ∙ sym q

@@ -13,6 +13,7 @@ use rules::limits::RECORD_BYTES;
 
 mod bytes;
 mod form;
+pub mod trips;
 
 // What a malformed record is read as.
 fn malformed() -> Read

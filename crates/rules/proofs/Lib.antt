@@ -35,3 +35,4 @@ pub mod SoundParts
 pub mod SoundAlways
 pub mod Books
 pub mod Runs
+pub mod Sole

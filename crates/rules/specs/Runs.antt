@@ -28,6 +28,17 @@ pub record Ran {n : ℕ} (ps : List (PK n)) (r : RK n) (Learnt : Out n ps r) : T
 abbrev pub exits : {n : ℕ} {ps : List (PK n)} {r : RK n} {Learnt : Out n ps r} (x : Ran ps r Learnt) → AtExit (endedOf n ps r) (x .lifetimes)
 exits {n} {ps} {r} x = atExit (endedOf n ps r) (x .lifetimes) (x .args) (x .lasts)
 
+-- what a call shows: its answer, and what it left
+abbrev pub Shows : {n : ℕ} (ps : List (PK n)) (r : RK n) → Type 0 → Type 0
+Shows {n} ps r A = (κs : Lfts n) → resT r κs .Denot → AtExit (endedOf n ps r) κs → A
+
+-- any two answers that a contract permits to the same arguments show the same
+abbrev pub Sole : {n : ℕ} (ps : List (PK n)) (r : RK n) → Out n ps r → (A : Type 0) → Shows ps r A → Type 0
+Sole {n} ps r Learnt A shows =
+    (κs : Lfts n) (a : Dens κs ps) (x y : resT r κs .Denot) (v w : Lasts (endedOf n ps r) κs a) →
+    Learnt κs a x (atExit (endedOf n ps r) κs a v) → Learnt κs a y (atExit (endedOf n ps r) κs a w) →
+    shows κs x (atExit (endedOf n ps r) κs a v) ≡ shows κs y (atExit (endedOf n ps r) κs a w)
+
 -- the calls of one edition, each with what it asked, what it was lent, what it left and what it said
 pub record Surface : Type 1 where
   pub Did : Type 0
