@@ -1,5 +1,5 @@
 -- The round trips, over plain values: what the writer and the reader answered one after the other, by the theorems of the definitions.
-use mathlib.Core.Path.{_≡_, sym, ap, _∙_}
+use mathlib.Core.Path.{_≡_, ap, _∙_}
 use mathlib.Core.List.{List}
 use Prim.Native.Nat.{ℕ}
 use lib.ListN.{length}

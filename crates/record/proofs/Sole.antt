@@ -1,10 +1,10 @@
 -- Any two answers that a public contract of `record` permits are equal, and the output left too: each contract is an equation.
-use mathlib.Core.Path.{_≡_, sym, ap, ap₂, _∙_}
+use mathlib.Core.Path.{sym, ap, ap₂, _∙_}
 use mathlib.Core.List.{List}
 use Prim.Native.Nat.{ℕ}
 use denote.Ref.{now}
 use Rattle.rules.specs.Record.{readOf, Written}
-use Rattle.rules.specs.Runs.{Sole}
+use Rattle.rules.specs.Results.{Sole}
 use Rattle.rules.specs.declared.Read.{Read}
 use Rattle.rules.proofs.Sole.{one}
 use Rattle.record.proofs.read_record.Kinds as read-kinds

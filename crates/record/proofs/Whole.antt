@@ -8,7 +8,7 @@ use lib.ListN.{getD, set, length, length-set}
 use lib.Seq.{sets}
 use borrow.Author.Tests.{eq-eqb, ne-eqb}
 use Rattle.rules.specs.Limits.{RECORD-BYTES, MARK-0, MARK-1}
-use Rattle.rules.specs.Record.{decode, encode, wordsOf, wordBytes, nothing, wellFormed, accepted, readOf, Written, writeOf}
+use Rattle.rules.specs.Record.{decode, encode, wordsOf, wordBytes, nothing, wellFormed, accepted, readOf, writeOf}
 use Rattle.rules.specs.declared.Submission.{Submission}
 use Rattle.rules.specs.declared.Read.{Read}
 use Rattle.rules.proofs.Rows.{sets-whole}

@@ -92,23 +92,31 @@ count-within headerLen c len most header t x h =
     leb-true (getD header c 0) (rowsIn len t)
     (and-snd (tableRight len most t) _ (and-snd (eqb (length header) headerLen) _ (and-fst (countRight headerLen c len most header t) x h)))
 
+-- such a row is whole
+row-whole : (headerLen c len most : ℕ) (header t : List ℕ) (k : ℕ) → countRight headerLen c len most header t && written (getD header c 0) k ≡ true → (k - 1) * len + len ≤ length t
+row-whole headerLen c len most header t k e =
+    let w : written (getD header c 0) k ≡ true = and-snd (countRight headerLen c len most header t) _ e in
+    let low : 0 < k = ltb-true 0 k (and-fst (ltb 0 k) (leb k (getD header c 0)) w) in
+    let high : k ≤ getD header c 0 = leb-true k (getD header c 0) (and-snd (ltb 0 k) (leb k (getD header c 0)) w) in
+    let fits : getD header c 0 ≤ rowsIn len t = count-within headerLen c len most header t (written (getD header c 0) k) e in
+    room len (k - 1) t (omega arith)
+
+-- a place is in the table, or at its end
+pub place-within : (headerLen c len most : ℕ) (header t : List ℕ) (k : ℕ) → rowPlace headerLen c len most header t k ≤ length t
+unfolding rowPlace
+place-within headerLen c len most header t k =
+    cond-case (λ (p : ℕ). p ≤ length t) (countRight headerLen c len most header t && written (getD header c 0) k) ((k - 1) * len) (length t)
+    (λ e. let r = row-whole headerLen c len most header t k e in omega (arith, r)) (λ e. omega arith)
+
 -- the part of a table from a place on is empty at the table's end, and whole where a row starts
 part-or-none : (headerLen c len most : ℕ) (header t : List ℕ) (k : ℕ)
     → (partAt len t (rowPlace headerLen c len most header t k) ≡ []) ⊎ (length (partAt len t (rowPlace headerLen c len most header t k)) ≡ len)
 unfolding rowPlace
 part-or-none headerLen c len most header t k =
     cond-case (λ (p : ℕ). (partAt len t p ≡ []) ⊎ (length (partAt len t p) ≡ len))
-    (countRight headerLen c len most header t && written (getD header c 0) k) ((k - 1) * len) (length t) (λ e. inr (whole e))
+    (countRight headerLen c len most header t && written (getD header c 0) k) ((k - 1) * len) (length t)
+    (λ e. let r = row-whole headerLen c len most header t k e in inr (omega (arith, r, length-take len (drop ((k - 1) * len) t), length-drop ((k - 1) * len) t)))
     (λ e. inl (ap (take len) (drop-length t) ∙ take-nil len))
-  where
-    whole : countRight headerLen c len most header t && written (getD header c 0) k ≡ true → length (partAt len t ((k - 1) * len)) ≡ len
-    whole e =
-        let w : written (getD header c 0) k ≡ true = and-snd (countRight headerLen c len most header t) _ e in
-        let low : 0 < k = ltb-true 0 k (and-fst (ltb 0 k) (leb k (getD header c 0)) w) in
-        let high : k ≤ getD header c 0 = leb-true k (getD header c 0) (and-snd (ltb 0 k) (leb k (getD header c 0)) w) in
-        let fits : getD header c 0 ≤ rowsIn len t = count-within headerLen c len most header t (written (getD header c 0) k) e in
-        let r : (k - 1) * len + len ≤ length t = room len (k - 1) t (omega arith) in
-        omega (arith, length-take len (drop ((k - 1) * len) t), length-drop ((k - 1) * len) t)
 
 pub part-answers : Part-answers
 unfolding walletNumber

@@ -34,5 +34,6 @@ pub mod SoundStays
 pub mod SoundParts
 pub mod SoundAlways
 pub mod Books
+pub mod Results
 pub mod Runs
 pub mod Sole

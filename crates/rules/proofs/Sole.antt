@@ -2,7 +2,7 @@
 -- what the definition gives.
 use mathlib.Core.Path.{_≡_, sym, _∙_}
 use Prim.Native.Nat.{ℕ}
-use Rattle.rules.specs.Runs.{Sole}
+use Rattle.rules.specs.Results.{Sole}
 use Rattle.rules.proofs.status.Kinds as status-kinds
 use Rattle.rules.proofs.status.Reads as status-reads
 

@@ -13,5 +13,6 @@ pub mod Status
 pub mod History
 pub mod Due
 pub mod Promises
+pub mod Results
 pub mod Runs
 pub mod Cases

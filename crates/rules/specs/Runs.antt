@@ -1,88 +1,104 @@
--- FROM THE CODE TO THE DEMANDS. What one call of a function did is `Ran`: any arguments, and an answer and last words that the function's own
--- contract permits. It is stated over the contract that the toolchain reads off the source, so no text of a contract stands here.
--- A surface is a set of public calls; a run of it is a list of what its calls did, in the order made. Demand 3 is stated of every run.
+-- FROM THE CODE TO THE DEMANDS, runs. A surface is a set of public calls, each with its own contract; a run of it is a list of what its calls
+-- did, in the order made, each lent the tables as the one before left them. Demands 1 and 2 are stated of every result, demand 3 of every run.
 use mathlib.Core.Path.{_≡_}
 use mathlib.Core.Logic.{_≢_}
 use mathlib.Core.List.{List, [], _∷_, _++_}
 use mathlib.Core.Bool.{true}
 use Prim.Native.Nat.{ℕ}
-use contract.Lifetimes.{Lfts}
-use borrow.Fn.Kind.{PK, RK}
-use borrow.Fn.Kinds.{Dens, Out, resT, endedOf}
-use denote.Triple.Clauses.{Lasts, AtExit, atExit}
 use Rattle.rules.specs.Limits.{SWEEP}
-use Rattle.rules.specs.Ledger.{Edition, Ledger, Sized}
+use Rattle.rules.specs.Ledger.{Edition, Ledger, Sized, setHeader, setWallets, setEscrows, setReceipts}
+use Rattle.rules.specs.Record.{readOf}
 use Rattle.rules.specs.Sound.{sound}
-use Rattle.rules.specs.History.{Call, Event, submitted, begun, Said, leaves, says, unbroken}
+use Rattle.rules.specs.History.{Event, submitted, begun, Said, unbroken}
 use Rattle.rules.specs.Promises.{Adds-up}
+use Rattle.rules.specs.Results.{Result, by-fresh, by-submit, by-read, by-write, by-status, by-wallet, by-escrow-place, by-escrow-row, by-receipt-place, by-receipt-row, Pair, Meets, Listed, DecidedBy}
 
--- one call: `meets` is the function's own `ensures`. A slice lent as `&` has no last words: it is seen at exit as it was at entry.
-pub record Ran {n : ℕ} (ps : List (PK n)) (r : RK n) (Learnt : Out n ps r) : Type 0 where
-  pub lifetimes : Lfts n
-  pub args : Dens lifetimes ps
-  pub answer : resT r lifetimes .Denot
-  pub lasts : Lasts (endedOf n ps r) lifetimes args
-  pub meets : Learnt lifetimes args answer (atExit (endedOf n ps r) lifetimes args lasts)
+-- the slices lent to a call are those of the ledger
+abbrev pub LentOf : Result → Ledger → Type 0
+LentOf (by-fresh lent left number) L = lent ≡ L
+LentOf (by-submit lent left bytes number word) L = lent ≡ L
+LentOf (by-read bytes answer) L = Unit {0}
+LentOf (by-write s out left number) L = Unit {0}
+LentOf (by-status number status) L = Unit {0}
+LentOf (by-wallet lent left id number) L = (lent .header ≡ L .header) × (lent .table ≡ L .wallets)
+LentOf (by-escrow-place lent left number place) L = (lent .header ≡ L .header) × (lent .table ≡ L .escrows)
+LentOf (by-escrow-row lent left number part) L = (lent .header ≡ L .header) × (lent .table ≡ L .escrows)
+LentOf (by-receipt-place lent left number place) L = (lent .header ≡ L .header) × (lent .table ≡ L .receipts)
+LentOf (by-receipt-row lent left number part) L = (lent .header ≡ L .header) × (lent .table ≡ L .receipts)
 
--- the parameters at exit
-abbrev pub exits : {n : ℕ} {ps : List (PK n)} {r : RK n} {Learnt : Out n ps r} (x : Ran ps r Learnt) → AtExit (endedOf n ps r) (x .lifetimes)
-exits {n} {ps} {r} x = atExit (endedOf n ps r) (x .lifetimes) (x .args) (x .lasts)
+-- the ledger, with those slices as the call left them
+abbrev laid : (List ℕ → Ledger → Ledger) → Pair → Ledger → Ledger
+laid set p L = setHeader (p .header) (set (p .table) L)
 
--- what a call shows: its answer, and what it left
-abbrev pub Shows : {n : ℕ} (ps : List (PK n)) (r : RK n) → Type 0 → Type 0
-Shows {n} ps r A = (κs : Lfts n) → resT r κs .Denot → AtExit (endedOf n ps r) κs → A
+abbrev pub leftBy : Result → Ledger → Ledger
+leftBy (by-fresh lent left number) L = left
+leftBy (by-submit lent left bytes number word) L = left
+leftBy (by-read bytes answer) L = L
+leftBy (by-write s out left number) L = L
+leftBy (by-status number status) L = L
+leftBy (by-wallet lent left id number) L = laid setWallets left L
+leftBy (by-escrow-place lent left number place) L = laid setEscrows left L
+leftBy (by-escrow-row lent left number part) L = laid setEscrows left L
+leftBy (by-receipt-place lent left number place) L = laid setReceipts left L
+leftBy (by-receipt-row lent left number part) L = laid setReceipts left L
 
--- any two answers that a contract permits to the same arguments show the same
-abbrev pub Sole : {n : ℕ} (ps : List (PK n)) (r : RK n) → Out n ps r → (A : Type 0) → Shows ps r A → Type 0
-Sole {n} ps r Learnt A shows =
-    (κs : Lfts n) (a : Dens κs ps) (x y : resT r κs .Denot) (v w : Lasts (endedOf n ps r) κs a) →
-    Learnt κs a x (atExit (endedOf n ps r) κs a v) → Learnt κs a y (atExit (endedOf n ps r) κs a w) →
-    shows κs x (atExit (endedOf n ps r) κs a v) ≡ shows κs y (atExit (endedOf n ps r) κs a w)
+-- what the caller can write down of it, without looking at a table
+abbrev pub heardOf : Result → List Event
+heardOf (by-fresh lent left number) = begun number ∷ []
+heardOf (by-submit lent left bytes number word) = submitted (record { submission = readOf bytes .submission; number = number; word = word }) ∷ []
+heardOf (by-read bytes answer) = []
+heardOf (by-write s out left number) = []
+heardOf (by-status number status) = []
+heardOf (by-wallet lent left id number) = []
+heardOf (by-escrow-place lent left number place) = []
+heardOf (by-escrow-row lent left number part) = []
+heardOf (by-receipt-place lent left number place) = []
+heardOf (by-receipt-row lent left number part) = []
 
--- the calls of one edition, each with what it asked, what it was lent, what it left and what it said
+-- the public calls of one edition: what each did, what that showed, and that by its own contract it is what the definitions give
 pub record Surface : Type 1 where
   pub Did : Type 0
   pub edition : Edition
   pub sized : Sized edition
-  pub call : Did → Call
-  -- the slices lent to it are those of a ledger
-  pub LentOf : Did → Ledger → Type 0
-  -- the ledger with those slices as the call left them
-  pub left : Did → Ledger → Ledger
-  pub saying : Did → List Event
-  -- and by its contract it left and said what the definitions lay down
-  pub left-right : (d : Did) (L : Ledger) → LentOf d L → left d L ≡ leaves L (call d)
-  pub saying-right : (d : Did) (L : Ledger) → LentOf d L → saying d ≡ says L (call d)
+  pub shows : Did → Result
+  pub meets : (d : Did) → Meets edition (shows d)
 
 module _ (S : Surface) where
-  -- each call is lent the tables as the one before left them
   abbrev pub Run : Ledger → List (S .Did) → Type 0
   Run L [] = Unit {0}
-  Run L (d ∷ ds) = S .LentOf d L × Run (S .left d L) ds
+  Run L (d ∷ ds) = LentOf (S .shows d) L × Run (leftBy (S .shows d) L) ds
 
   abbrev pub lastOf : Ledger → List (S .Did) → Ledger
   lastOf L [] = L
-  lastOf L (d ∷ ds) = lastOf (S .left d L) ds
+  lastOf L (d ∷ ds) = lastOf (leftBy (S .shows d) L) ds
 
-  abbrev pub saidBy : List (S .Did) → List Event
-  saidBy [] = []
-  saidBy (d ∷ ds) = S .saying d ++ saidBy ds
+  abbrev pub heardBy : List (S .Did) → List Event
+  heardBy [] = []
+  heardBy (d ∷ ds) = heardOf (S .shows d) ++ heardBy ds
 
-  -- a run that begins with a start afresh answered 0, on any tables: it adds up, and the ledger is sound
+  -- DEMAND 1
+  abbrev pub Calls-are-listed : Type 0
+  Calls-are-listed = (d : S .Did) → Listed (S .edition) (S .shows d)
+
+  -- DEMAND 2
+  abbrev pub Calls-decide : Type 0
+  Calls-decide = (d : S .Did) → DecidedBy (S .shows d)
+
+  -- DEMAND 3. A run that begins with a start afresh answered 0, on any tables, adds up, and its ledger is sound. A later start that is
+  -- answered 0 begins the book again.
   abbrev pub Runs-add-up : Type 0
   Runs-add-up =
-      (L : Ledger) → L .edition ≡ S .edition → (start : S .Did) (run : List (S .Did)) → Run L (start ∷ run) →
-      S .saying start ≡ (begun 0 ∷ []) →
-      Adds-up (lastOf L (start ∷ run)) (saidBy (start ∷ run)) × (sound (lastOf L (start ∷ run)) ≡ true)
+      (L : Ledger) (start : S .Did) (run : List (S .Did)) → Run L (start ∷ run) → heardOf (S .shows start) ≡ (begun 0 ∷ []) →
+      Adds-up (lastOf L (start ∷ run)) (heardBy (start ∷ run)) × (sound (lastOf L (start ∷ run)) ≡ true)
 
-  -- no retry settles: of two submissions of a run with one signer and nonce, the first settled and no sweep, and no start afresh between them,
-  -- the later one is a refusal and leaves all words as they were
+  -- THE RETRY. Of two submissions of a run with one signer and nonce, the first settled and no sweep, and no start between them that is
+  -- answered 0, the later one is a refusal and leaves all words as they were, whatever lies between.
   abbrev pub Runs-refuse-retries : Type 0
   Runs-refuse-retries =
-      (L : Ledger) → L .edition ≡ S .edition → (first : S .Did) (between : List (S .Did)) (again : S .Did) →
-      Run L (first ∷ (between ++ (again ∷ []))) → unbroken (saidBy between) ≡ true →
-      (e f : Said) → S .saying first ≡ (submitted e ∷ []) → S .saying again ≡ (submitted f ∷ []) →
+      (L : Ledger) (first : S .Did) (between : List (S .Did)) (again : S .Did) → Run L (first ∷ (between ++ (again ∷ []))) →
+      unbroken (heardBy between) ≡ true →
+      (e f : Said) → heardOf (S .shows first) ≡ (submitted e ∷ []) → heardOf (S .shows again) ≡ (submitted f ∷ []) →
       e .number ≡ 0 → e .submission .op ≢ SWEEP →
       f .submission .signer ≡ e .submission .signer → f .submission .nonce ≡ e .submission .nonce →
-      let K = lastOf (S .left first L) between in
-      (f .number ≢ 0) × (f .word ≡ 0) × (S .left again K ≡ K)
+      let K = lastOf (leftBy (S .shows first) L) between in
+      (f .number ≢ 0) × (f .word ≡ 0) × (leftBy (S .shows again) K ≡ K)

@@ -1,0 +1,91 @@
+-- Demands 1 and 2 of what a call showed: it is what the definitions give, and of those they are proved.
+use mathlib.Core.Path.{_≡_, sym, ap, _∙_, subst}
+use mathlib.Core.Logic.{_≢_, _⊎_, inl, inr}
+use mathlib.Core.List.{List, []}
+use mathlib.Core.Bool.{true, false}
+use Prim.Native.Nat.{ℕ, _≤_}
+use lib.ListN.{length, List·getD-eq-default}
+use Rattle.rules.specs.Limits.{WALLET-LEN, RECEIPT-LEN, ESCROWS, RECEIPTS, MAX-ESCROWS, MAX-RECEIPTS}
+use Rattle.rules.specs.Table.{rowsIn}
+use Rattle.rules.specs.Ledger.{Edition, Ledger, Outcome, outcome, setHeader, lengthsRight, freshHeader, fresh}
+use Rattle.rules.specs.Record.{readOf, nothing, Written}
+use Rattle.rules.specs.Refusals.{refusals}
+use Rattle.rules.specs.Submit.{submit}
+use Rattle.rules.specs.Status.{statuses}
+use Rattle.rules.specs.Promises.{IsFirst, Refused}
+use Rattle.rules.specs.Results.{Result, by-fresh, by-submit, by-read, by-write, by-status, by-wallet, by-escrow-place, by-escrow-row, by-receipt-place, by-receipt-row, Meets, Listed, Decided, DecidedBy}
+use Rattle.rules.specs.declared.Read.{Read}
+use Rattle.rules.proofs.Demand12.{on-the-list, refusal-changes-nothing, fresh-answers, read-answers, write-answers, part-answers, place-within, settles-exactly, first-refusal, laid-down}
+
+-- ---- a start afresh
+
+listed-fresh : (e : Edition) (lent left : Ledger) (number : ℕ) → Meets e (by-fresh lent left number) → Listed e (by-fresh lent left number)
+listed-fresh e lent left number m = go (fresh-answers lent)
+  where
+    go : ((lengthsRight lent ≡ true) × (fresh lent ≡ outcome 0 0 (setHeader (freshHeader (lent .edition)) lent))) ⊎ ((lengthsRight lent ≡ false) × (fresh lent ≡ outcome 1 0 lent))
+        → Listed e (by-fresh lent left number)
+    go (inl x) =
+        let o = m .1 ∙ x .1 in
+        inl (ap (λ (o : Outcome). o .number) o, ap (λ (o : Outcome). o .left) o ∙ ap (λ (d : Edition). setHeader (freshHeader d) lent) (m .0))
+    go (inr x) = let o = m .1 ∙ x .1 in inr (ap (λ (o : Outcome). o .number) o, ap (λ (o : Outcome). o .left) o)
+
+-- ---- a submission
+
+module _ (lent left : Ledger) (bytes : List ℕ) (number word : ℕ) (m : outcome number word left ≡ submit lent bytes) where
+  number-of : number ≡ submit lent bytes .number
+  number-of = ap (λ (o : Outcome). o .number) m
+
+  word-of : word ≡ submit lent bytes .word
+  word-of = ap (λ (o : Outcome). o .word) m
+
+  left-of : left ≡ submit lent bytes .left
+  left-of = ap (λ (o : Outcome). o .left) m
+
+  listed-submit : (number ≤ 40) × (number ≢ 0 → (word ≡ 0) × (left ≡ lent))
+  listed-submit = (
+    subst (λ (n : ℕ). n ≤ 40) (sym number-of) (on-the-list lent bytes),
+    λ n. let r : Refused lent bytes = refusal-changes-nothing lent bytes (λ z. n (number-of ∙ z)) in (word-of ∙ r .word, left-of ∙ r .left),
+  )
+
+  decided : Decided lent left bytes number word
+  decided = record {
+    settles = λ z. settles-exactly lent bytes .0 (sym number-of ∙ z);
+    exactly = λ z. number-of ∙ settles-exactly lent bytes .1 z;
+    first = λ n. subst (λ (k : ℕ). IsFirst k (refusals lent (readOf bytes))) (sym number-of) (first-refusal lent bytes (λ z. n (number-of ∙ z)));
+    laid-down = λ z.
+        let o = laid-down lent bytes (sym number-of ∙ z) in
+        (word-of ∙ ap (λ (o : Outcome). o .word) o, left-of ∙ ap (λ (o : Outcome). o .left) o);
+  }
+
+-- ---- any call
+
+pub listed : (e : Edition) (r : Result) → Meets e r → Listed e r
+listed e (by-fresh lent left number) m = listed-fresh e lent left number m
+listed e (by-submit lent left bytes number word) m = listed-submit lent left bytes number word (m .1)
+listed e (by-read bytes answer) m =
+    subst (λ (r : Read). (r .number ≡ 0) ⊎ ((r .number ≡ 3) × (r .submission ≡ nothing))) (sym m) (read-answers bytes)
+listed e (by-write s out left number) m =
+    subst (λ (w : Written). (w .number ≡ 0) ⊎ ((w .number ≡ 3) × (w .out ≡ out))) (sym m) (write-answers s out)
+listed e (by-status number status) m = λ l. m ∙ List·getD-eq-default statuses 500 l
+listed e (by-wallet lent left id number) m =
+    (m .0, subst (λ (n : ℕ). n ≤ rowsIn WALLET-LEN (lent .table)) (sym (m .1)) (part-answers e (lent .header) (lent .table) id .2))
+listed e (by-escrow-place lent left number place) m =
+    (m .0, subst (λ (p : ℕ). p ≤ length (lent .table)) (sym (m .1)) (place-within (e .header) ESCROWS (e .escrow) MAX-ESCROWS (lent .header) (lent .table) number))
+listed e (by-escrow-row lent left number part) m =
+    (m .0, subst (λ (p : List ℕ). (p ≡ []) ⊎ (length p ≡ e .escrow)) (sym (m .1)) (part-answers e (lent .header) (lent .table) number .0))
+listed e (by-receipt-place lent left number place) m =
+    (m .0, subst (λ (p : ℕ). p ≤ length (lent .table)) (sym (m .1)) (place-within (e .header) RECEIPTS RECEIPT-LEN MAX-RECEIPTS (lent .header) (lent .table) number))
+listed e (by-receipt-row lent left number part) m =
+    (m .0, subst (λ (p : List ℕ). (p ≡ []) ⊎ (length p ≡ RECEIPT-LEN)) (sym (m .1)) (part-answers e (lent .header) (lent .table) number .1))
+
+pub decided-by : (e : Edition) (r : Result) → Meets e r → DecidedBy r
+decided-by e (by-fresh lent left number) m = tt
+decided-by e (by-submit lent left bytes number word) m = decided lent left bytes number word (m .1)
+decided-by e (by-read bytes answer) m = tt
+decided-by e (by-write s out left number) m = tt
+decided-by e (by-status number status) m = tt
+decided-by e (by-wallet lent left id number) m = tt
+decided-by e (by-escrow-place lent left number place) m = tt
+decided-by e (by-escrow-row lent left number part) m = tt
+decided-by e (by-receipt-place lent left number place) m = tt
+decided-by e (by-receipt-row lent left number part) m = tt
