@@ -7,7 +7,7 @@
 
 #![allow(unsafe_code)]
 
-use crate::numbers::{EscrowNumber, ReceiptNumber};
+use crate::numbers::{EscrowNumber, ReceiptNumber, WalletNumber};
 use crate::submission::Submission;
 use crate::tables::Tables;
 
@@ -71,7 +71,7 @@ extern "C" {
         wallets: *const u64,
         wallets_len: usize,
         id: u64,
-    ) -> u64;
+    ) -> WalletNumber;
     fn milebeacon_escrow_place(
         header: *const u64,
         header_len: usize,
@@ -151,7 +151,7 @@ pub fn status(number: u64) -> u64 {
 }
 
 /// The number of the first wallet row with this id, or 0.
-pub fn wallet_row(header: &[u64], wallets: &[u64], id: u64) -> u64 {
+pub fn wallet_row(header: &[u64], wallets: &[u64], id: u64) -> WalletNumber {
     // SAFETY: each pointer and count are those of a live slice, which is only read.
     unsafe {
         milebeacon_wallet_row(

@@ -11,8 +11,8 @@ use crate::rows::{EscrowRow, ReceiptRow};
 /// The number of the first wallet row with this id. No wallet has id 0.
 pub fn wallet_number(header: &[u64], wallets: &[u64], id: u64) -> Option<WalletNumber> {
     match ffi::wallet_row(header, wallets, id) {
-        0 => None,
-        number => Some(WalletNumber(number)),
+        WalletNumber(0) => None,
+        number => Some(number),
     }
 }
 

@@ -1,2 +1,3 @@
--- That each contract permits one answer.
-pub mod One
+-- That each contract permits one answer; and that every run of the public calls meets the demands.
+pub mod Sole
+pub mod Surface

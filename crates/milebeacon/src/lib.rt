@@ -12,6 +12,7 @@ use rules::EscrowNumber;
 use rules::Read;
 use rules::ReceiptNumber;
 use rules::Submission;
+use rules::WalletNumber;
 
 // A submission over the five lent tables: its answer, and the tables as document 01 lays them down; a refusal changes nothing.
 #[no_mangle]
@@ -68,10 +69,10 @@ pub extern "C" fn milebeacon_status(number: u64) -> u64
 
 // The number of a wallet's row, or 0.
 #[no_mangle]
-pub extern "C" fn milebeacon_wallet_row(header: &[u64], wallets: &[u64], id: u64) -> u64
-    ensures { λ r. ⌜ r ≡ walletNumber first-edition (now (header .entry)) (now (wallets .entry)) id ⌝ }
+pub extern "C" fn milebeacon_wallet_row(header: &[u64], wallets: &[u64], id: u64) -> WalletNumber
+    ensures { λ r. ⌜ r .0 ≡ walletNumber first-edition (now (header .entry)) (now (wallets .entry)) id ⌝ }
 {
-    ledger::lookups::wallet_row(header, wallets, id).0
+    ledger::lookups::wallet_row(header, wallets, id)
 }
 
 // Where an escrow's row starts in its table, in words, or the table's length: a part of a slice cannot be returned across this boundary.

@@ -76,7 +76,7 @@ pub fn all(world: &World, dice: &mut Dice, tally: &mut Tally) -> Result<(), Diff
         let core = ffi::wallet_row(header, wallets, id);
         same(
             "wallet's row",
-            core,
+            core.0,
             second::wallet_row(header, wallets, id),
         )?;
         tally.other_calls += 1;

@@ -1,0 +1,98 @@
+-- THE DEMANDS OF THE CODE. What a public call of `ledger`, `record` or `rules` did, by that call's own contract; what it showed; and so the
+-- three demands of every call and of every run.
+use mathlib.Core.Path.{refl}
+use lib.Dec.{lit<, lit≤}
+use denote.Ref.{now}
+use Rattle.rules.specs.Ledger.{Ledger, first-edition}
+use Rattle.rules.specs.Moments.{Slice, tables}
+use Rattle.rules.specs.Results.{Ran, exits, pair, Result, by-fresh, by-submit, by-read, by-write, by-status, by-wallet, by-escrow-place, by-escrow-row, by-receipt-place, by-receipt-row, Meets}
+use Rattle.rules.specs.Runs.{Surface, Calls-are-listed, Calls-decide, Runs-add-up, Runs-refuse-retries}
+use Rattle.rules.proofs.Runs.{calls-are-listed, calls-decide, runs-add-up, runs-refuse-retries}
+use Rattle.rules.proofs.status.Kinds as status-kinds
+use Rattle.rules.proofs.status.Reads as status-reads
+use Rattle.record.proofs.read_record.Kinds as read-kinds
+use Rattle.record.proofs.read_record.Reads as read-reads
+use Rattle.record.proofs.write_record.Kinds as write-kinds
+use Rattle.record.proofs.write_record.Reads as write-reads
+use Rattle.ledger.proofs.fresh.Kinds as fresh-kinds
+use Rattle.ledger.proofs.fresh.Reads as fresh-reads
+use Rattle.ledger.proofs.submit.Kinds as submit-kinds
+use Rattle.ledger.proofs.submit.Reads as submit-reads
+use Rattle.ledger.proofs.lookups.wallet_row.Kinds as wallet-kinds
+use Rattle.ledger.proofs.lookups.wallet_row.Reads as wallet-reads
+use Rattle.ledger.proofs.lookups.escrow_place.Kinds as escrow-place-kinds
+use Rattle.ledger.proofs.lookups.escrow_place.Reads as escrow-place-reads
+use Rattle.ledger.proofs.lookups.receipt_place.Kinds as receipt-place-kinds
+use Rattle.ledger.proofs.lookups.receipt_place.Reads as receipt-place-reads
+use Rattle.ledger.proofs.lookups.escrow_row.Kinds as escrow-row-kinds
+use Rattle.ledger.proofs.lookups.escrow_row.Reads as escrow-row-reads
+use Rattle.ledger.proofs.lookups.receipt_row.Kinds as receipt-row-kinds
+use Rattle.ledger.proofs.lookups.receipt_row.Reads as receipt-row-reads
+
+-- the five tables, with which the parameters of a call begin
+abbrev pub five : {X : Type 0} → Slice × (Slice × (Slice × (Slice × (Slice × X)))) → Ledger
+five t = tables first-edition (t .0) (t .1 .0) (t .1 .1 .0) (t .1 .1 .1 .0) (t .1 .1 .1 .1 .0)
+
+-- one call of each public function
+pub data Did : Type 0 where
+  did-fresh : Ran fresh-kinds.ps fresh-kinds.r fresh-reads.Learnt → Did
+  did-submit : Ran submit-kinds.ps submit-kinds.r submit-reads.Learnt → Did
+  did-read : Ran read-kinds.ps read-kinds.r read-reads.Learnt → Did
+  did-write : Ran write-kinds.ps write-kinds.r write-reads.Learnt → Did
+  did-status : Ran status-kinds.ps status-kinds.r status-reads.Learnt → Did
+  did-wallet : Ran wallet-kinds.ps wallet-kinds.r wallet-reads.Learnt → Did
+  did-escrow-place : Ran escrow-place-kinds.ps escrow-place-kinds.r escrow-place-reads.Learnt → Did
+  did-escrow-row : Ran escrow-row-kinds.ps escrow-row-kinds.r escrow-row-reads.Learnt → Did
+  did-receipt-place : Ran receipt-place-kinds.ps receipt-place-kinds.r receipt-place-reads.Learnt → Did
+  did-receipt-row : Ran receipt-row-kinds.ps receipt-row-kinds.r receipt-row-reads.Learnt → Did
+
+-- what it was lent, left, asked and answered: its parameters at entry and at exit, in the order of the source
+abbrev pub shows : Did → Result
+shows (did-fresh x) = by-fresh (five (x .args)) (five (exits x)) (x .answer)
+shows (did-submit x) = by-submit (five (x .args)) (five (exits x)) (now (x .args .1 .1 .1 .1 .1 .0)) (x .answer .number) (x .answer .word)
+shows (did-read x) = by-read (now (x .args .0)) (x .answer)
+shows (did-write x) = by-write (x .args .0) (now (x .args .1 .0)) (now (exits x .1 .0)) (x .answer)
+shows (did-status x) = by-status (x .args .0) (x .answer)
+shows (did-wallet x) = by-wallet (pair (now (x .args .0)) (now (x .args .1 .0))) (pair (now (exits x .0)) (now (exits x .1 .0))) (x .args .1 .1 .0) (x .answer .0)
+shows (did-escrow-place x) =
+    by-escrow-place (pair (now (x .args .0)) (now (x .args .1 .0))) (pair (now (exits x .0)) (now (exits x .1 .0))) (x .args .1 .1 .0 .0) (x .answer)
+shows (did-escrow-row x) =
+    by-escrow-row (pair (now (x .args .0)) (now (x .args .1 .0))) (pair (now (exits x .0)) (now (exits x .1 .0))) (x .args .1 .1 .0 .0) (now (x .answer))
+shows (did-receipt-place x) =
+    by-receipt-place (pair (now (x .args .0)) (now (x .args .1 .0))) (pair (now (exits x .0)) (now (exits x .1 .0))) (x .args .1 .1 .0 .0) (x .answer)
+shows (did-receipt-row x) =
+    by-receipt-row (pair (now (x .args .0)) (now (x .args .1 .0))) (pair (now (exits x .0)) (now (exits x .1 .0))) (x .args .1 .1 .0 .0) (now (x .answer))
+
+-- each by its own contract
+pub meets : (d : Did) → Meets first-edition (shows d)
+meets (did-fresh x) = (refl, x .meets)
+meets (did-submit x) = (refl, x .meets)
+meets (did-read x) = x .meets
+meets (did-write x) = x .meets
+meets (did-status x) = x .meets
+meets (did-wallet x) = (refl, x .meets)
+meets (did-escrow-place x) = (refl, x .meets)
+meets (did-escrow-row x) = (refl, x .meets .0)
+meets (did-receipt-place x) = (refl, x .meets)
+meets (did-receipt-row x) = (refl, x .meets .0)
+
+abbrev pub surface : Surface
+surface = record {
+  Did = Did;
+  edition = first-edition;
+  sized = record { header = lit≤ tt; escrow = lit≤ tt; small = lit< tt };
+  shows = shows;
+  meets = meets;
+}
+
+pub demand-1 : Calls-are-listed surface
+demand-1 = calls-are-listed surface
+
+pub demand-2 : Calls-decide surface
+demand-2 = calls-decide surface
+
+pub demand-3 : Runs-add-up surface
+demand-3 = runs-add-up surface
+
+pub the-retry : Runs-refuse-retries surface
+the-retry = runs-refuse-retries surface
