@@ -6,16 +6,17 @@ use Prim.Native.Nat.{ℕ, _+_, _*_, _≤_, _<_}
 use native.Mathlib.Omega.{arith}
 use native.Mathlib.Nat.{le-refl}
 use native.Mathlib.Decide.{ℕ-discrete}
-use lib.Dec.{eqb, ltb, leb}
+use lib.Dec.{eqb, ltb}
 use lib.ListN.{getD, set, length-set, drop}
 use lib.Seq.{getD-set-same, getD-set-other}
-use borrow.Author.Tests.{eq-eqb, ne-eqb, ltb-true, leb-true}
+use borrow.Author.Tests.{eq-eqb, ne-eqb, ltb-true}
 use Rattle.rules.specs.Limits.{WALLET-LEN, MAX-WALLETS, MAX-ESCROWS, MAX-AMOUNT-MICRO, ID, FROM, TO, ESCROW-AMOUNT, ESCROW-STATE, IS-OPEN}
 use Rattle.rules.specs.Table.{word, all, every, distinct, sum}
 use Rattle.rules.specs.Ledger.{rowOf}
 use Rattle.rules.specs.Sound.{escrowTests, heldIn}
-use Rattle.rules.proofs.Bools.{and-intro, and-snd, and-none-snd, all-at}
+use Rattle.rules.proofs.Bools.{and-intro, and-none-snd}
 use Rattle.rules.proofs.Counts.{every-at, sum-step, sum-most}
+use Rattle.rules.proofs.Tests.{escrow-says}
 use Rattle.rules.proofs.Accounts.{row-hit, first-row}
 use Rattle.index.specs.Index.{numberOf, senderOf}
 use Rattle.sound.specs.Parts.{parties, heldOf, Held}
@@ -68,10 +69,7 @@ module _ (len : ℕ) (w : List ℕ) (n : ℕ) (e : List ℕ) (m : ℕ) where
 
   -- an amount that is right is within its limit
   pub amount-most : (k : ℕ) → right k ≡ true → word e len k ESCROW-AMOUNT ≤ MAX-AMOUNT-MICRO
-  amount-most k x =
-      leb-true _ _
-      (and-snd (leb 1 (word e len k ESCROW-AMOUNT)) (leb (word e len k ESCROW-AMOUNT) MAX-AMOUNT-MICRO)
-      (all-at (escrowTests (parties len w n e m) k) x 3))
+  amount-most k x = escrow-says (parties len w n e m) k x .own .high
 
 -- what escrow k holds of an id, where that is the sender's and where it is another's
 module _ (len : ℕ) (w e : List ℕ) (x k : ℕ) where
