@@ -11,7 +11,6 @@ use Rattle.rules.specs.Ledger.{Ledger, Outcome}
 use Rattle.rules.specs.Record.{readOf, bit}
 use Rattle.rules.specs.Submit.{submit}
 use Rattle.rules.specs.declared.Submission.{Submission}
-use Rattle.rules.specs.declared.Read.{Read}
 
 -- A public call. Starting afresh is not among them: it begins a history.
 pub data Call : Type 0 where
