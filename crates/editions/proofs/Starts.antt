@@ -6,12 +6,12 @@ use Prim.Native.Nat.{ℕ, zero, suc, _-_, _≤_, _<_}
 use native.Mathlib.Omega.{arith}
 use lib.Dec.{eqb}
 use lib.ListN.{length, set, drop, replicate, drop-of-length-le}
-use borrow.Author.Tests.{eqb-true}
 use Rattle.rules.specs.Limits.{HEADER-LEN, WALLET-LEN, RECEIPT-LEN, JOURNAL-LEN, MAX-WALLETS, MAX-ESCROWS, MAX-RECEIPTS, MAX-ENTRIES}
 use Rattle.rules.specs.Table.{tableRight}
-use Rattle.rules.specs.Ledger.{Ledger, ledgerOf, outcome, lengthTests, lengthsRight, fresh, freshHeader}
+use Rattle.rules.specs.Ledger.{Ledger, ledgerOf, outcome, lengthsRight, fresh, freshHeader}
 use Rattle.rules.specs.declared.Edition.{Edition}
-use Rattle.rules.proofs.Bools.{all-at, not-true-false, not-false-true}
+use Rattle.rules.proofs.Bools.{not-true-false, not-false-true}
+use Rattle.rules.proofs.Tests.{lengths-say, header-wide}
 
 -- the five tests as the code joins them
 pub lengths-by : (ed : Edition) (h w e r j : List ℕ) {wr er rr jr : Bool} → wr ≡ tableRight WALLET-LEN MAX-WALLETS w → er ≡ tableRight (ed .escrow) MAX-ESCROWS e
@@ -19,10 +19,6 @@ pub lengths-by : (ed : Edition) (h w e r j : List ℕ) {wr er rr jr : Bool} → 
     → eqb (length h) (ed .header) && (wr && (er && (rr && jr))) ≡ lengthsRight (ledgerOf ed h w e r j)
 unfolding lengthsRight
 lengths-by ed h w e r j a b c d = rw (a, b, c, d)
-
-pub header-length : (L : Ledger) → lengthsRight L ≡ true → length (L .header) ≡ L .edition .header
-unfolding lengthsRight
-header-length L t = eqb-true (length (L .header)) (L .edition .header) (all-at (lengthTests L) t 0)
 
 pub refused : (L : Ledger) {b : Bool} → b ≡ lengthsRight L → not b ≡ true → outcome 1 0 L ≡ fresh L
 unfolding fresh
@@ -47,7 +43,7 @@ unfolding fresh
 started ed h h′ w e r j {b} wide x n p =
     let t : lengthsRight (ledgerOf ed h w e r j) ≡ true = sym x ∙ not-false-true b n in
     let q : set h′ 0 (ed .number) ≡ freshHeader ed =
-    ap (λ (k : List ℕ). set k 0 (ed .number)) (p ∙ ap (λ (n : ℕ). replicate n 0) (header-length (ledgerOf ed h w e r j) t))
+    ap (λ (k : List ℕ). set k 0 (ed .number)) (p ∙ ap (λ (n : ℕ). replicate n 0) (lengths-say (ledgerOf ed h w e r j) t .header))
     ∙ number-first (ed .header) (ed .number) (omega arith) in
     rw (t, q)
 
@@ -55,4 +51,4 @@ started ed h h′ w e r j {b} wide x n p =
 pub header-long :
     (ed : Edition) (h w e r j : List ℕ) {b : Bool} → HEADER-LEN ≤ ed .header → b ≡ lengthsRight (ledgerOf ed h w e r j) → not b ≡ false
     → HEADER-LEN ≤ length h
-header-long ed h w e r j {b} wide x n = omega (arith, header-length (ledgerOf ed h w e r j) (sym x ∙ not-false-true b n))
+header-long ed h w e r j {b} wide x n = header-wide (ledgerOf ed h w e r j) (sym x ∙ not-false-true b n) wide

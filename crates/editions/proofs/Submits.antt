@@ -6,26 +6,21 @@ use mathlib.Core.Bool.{Bool, true, false, cond}
 use Prim.Native.Nat.{ℕ, zero, suc}
 use native.Mathlib.Omega.{arith}
 use lib.Dec.{eqb}
+use borrow.Author.Tests.{ne-eqb}
 use Rattle.rules.specs.Ledger.{Ledger, outcome, lengthsRight}
-use Rattle.rules.specs.Record.{wellFormed, acceptTests, accepted, readOf, decode, nothing}
+use Rattle.rules.specs.Record.{wellFormed, accepted, readOf, decode, nothing}
 use Rattle.rules.specs.Sound.{sound}
 use Rattle.rules.specs.Refusals.{first, refusals, entryRefusals, envelopeRefusals, operationRefusals}
 use Rattle.rules.specs.Settle.{Done, done, settle}
 use Rattle.rules.specs.Submit.{finish, answerOf, submitRead, submit}
 use Rattle.rules.specs.declared.Read.{Read}
-use Rattle.rules.proofs.Bools.{all-at}
+use Rattle.rules.proofs.Formed.{read-formed}
 
 -- a record that is read has well-formed fields
 pub read-well : (b : List ℕ) {r : Read} → r ≡ readOf b → r .number ≡ 0 → wellFormed (r .submission) ≡ true
-unfolding readOf accepted
-read-well b {r} e z = subst (λ (x : Read). wellFormed (x .submission) ≡ true) (sym e) (go (accepted b) refl (sym (ap (λ (x : Read). x .number) e) ∙ z))
-  where
-    R : Bool → Read
-    R a = cond a (record { number = 0; submission = decode b }) (record { number = 3; submission = nothing })
-
-    go : (a : Bool) → accepted b ≡ a → R a .number ≡ 0 → wellFormed (R a .submission) ≡ true
-    go true t n = all-at (acceptTests b) t 3
-    go false t n = absurd (omega arith)
+read-well b e z =
+    subst (λ (x : Read). wellFormed (x .submission) ≡ true) (sym e)
+    (read-formed b (ne-eqb (readOf b .number) 3 (λ t. omega (arith, t, sym (ap (λ (x : Read). x .number) e) ∙ z))))
 
 refused : (n : ℕ) (d : Done) (L : Ledger) → n ≢ 0 → finish n d L ≡ outcome n 0 L
 refused zero d L h = absurd (h refl)

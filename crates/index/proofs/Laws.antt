@@ -1,57 +1,22 @@
--- Laws of tests over rows that agree, of ids that a function takes back to their rows, and of numbers that stand in for a first row.
-use mathlib.Core.Path.{_≡_, refl, sym, ap, ap₂, _∙_}
-use mathlib.Core.Bool.{Bool, true, false, not, _&&_}
+-- Laws of ids that are copied, and of numbers that stand in for a first row.
+use mathlib.Core.Path.{_≡_, refl, sym, _∙_}
+use mathlib.Core.Bool.{Bool, true, false}
 use mathlib.Core.List.{List}
 use Prim.Native.Nat.{ℕ, zero, suc, _+_, _≤_, _<_}
 use native.Mathlib.Nat.{not-suc-le-zero}
 use native.Mathlib.Numerals.{add-one}
 use native.Mathlib.Omega.{arith}
 use native.Mathlib.Decide.{ℕ-discrete}
-use lib.Dec.{eqb, ltb}
+use lib.Dec.{ltb}
 use lib.ListN.{getD, set, length, length-set}
 use lib.Seq.{getD-set-same, getD-set-other}
-use borrow.Author.Tests.{eq-eqb, ne-eqb, eqb-false, lt-ltb, le-ltb, not-true}
+use borrow.Author.Tests.{lt-ltb, le-ltb}
 use Rattle.rules.specs.Limits.{WALLET-LEN, MAX-WALLETS, ID}
-use Rattle.rules.specs.Table.{word, every, distinct}
+use Rattle.rules.specs.Table.{word, distinct}
 use Rattle.rules.specs.Ledger.{rowOf}
-use Rattle.rules.proofs.Counts.{every-intro, every-at}
-use Rattle.rules.proofs.Seek.{seek-at}
+use Rattle.rules.proofs.Counts.{distinct-ext}
+use Rattle.rules.proofs.Accounts.{first-row}
 use Rattle.index.specs.Index.{NUMBERS, idAt, Copied, Hit, Indexed, numberOf, senderOf}
-
--- tests that agree on the first n
-pub every-ext : (n : ℕ) (p q : ℕ → Bool) → ((i : ℕ) → i < n → p i ≡ q i) → every n p ≡ every n q
-unfolding every
-every-ext zero p q e = refl
-every-ext (suc n) p q e = ap₂ _&&_ (every-ext n p q (λ i h. e i (omega arith))) (e n (omega arith))
-
-pub distinct-ext : (n : ℕ) (f g : ℕ → ℕ) → ((i : ℕ) → i < n → f i ≡ g i) → distinct n f ≡ distinct n g
-distinct-ext n f g e =
-    every-ext n (λ i. every i (λ j. not (eqb (f j) (f i)))) (λ i. every i (λ j. not (eqb (g j) (g i))))
-    (λ i h. every-ext i (λ j. not (eqb (f j) (f i))) (λ j. not (eqb (g j) (g i))) (λ j l. ap₂ (λ a b. not (eqb a b)) (e j (omega arith)) (e i h)))
-
--- a function that takes the id of each row back to its number shows that ids differ
-pub taken-back : (n : ℕ) (f g : ℕ → ℕ) → ((i : ℕ) → i < n → g (f i) ≡ i + 1) → distinct n f ≡ true
-taken-back n f g e =
-    every-intro n (λ i. every i (λ j. not (eqb (f j) (f i))))
-    (λ i h. every-intro i (λ j. not (eqb (f j) (f i))) (λ j l. rw (ne-eqb (f j) (f i) (differ i j h l))))
-  where
-    differ : (i j : ℕ) → i < n → j < i → f j ≡ f i → ⊥
-    differ i j h l z = let r : j + 1 ≡ i + 1 = sym (e j (omega arith)) ∙ ap g z ∙ e i h in omega arith
-
--- of two rows in order, the ids differ
-pub apart : (n : ℕ) (f : ℕ → ℕ) → distinct n f ≡ true → (i j : ℕ) → i < n → j < i → f j ≡ f i → ⊥
-apart n f d i j h l =
-    eqb-false (f j) (f i)
-    (not-true (eqb (f j) (f i))
-    (every-at i (λ j. not (eqb (f j) (f i))) (every-at n (λ i. every i (λ j. not (eqb (f j) (f i)))) d i h) j l))
-
--- where ids differ, a row that has the id is the first that has it
-pub first-row : (w : List ℕ) (n x i : ℕ) → distinct n (λ i. word w WALLET-LEN i ID) ≡ true → i < n → word w WALLET-LEN i ID ≡ x → rowOf w n x ≡ i
-unfolding rowOf
-first-row w n x i d h e =
-    seek-at n (λ j. eqb (word w WALLET-LEN j ID) x) i h
-    (λ j l. ne-eqb (word w WALLET-LEN j ID) x (λ z. apart n (λ i. word w WALLET-LEN i ID) d i j h l (z ∙ sym e)))
-    (eq-eqb (word w WALLET-LEN i ID) x e)
 
 -- one id more is copied
 pub copied-none : (w ids : List ℕ) → length ids ≡ NUMBERS → Copied w 0 ids

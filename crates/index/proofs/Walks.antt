@@ -12,7 +12,7 @@ use lib.Seq.{getD-set-same, getD-set-other, set-out}
 use borrow.Author.Tests.{eq-eqb, ne-eqb, eqb-true, eqb-false, lt-ltb}
 use Rattle.rules.specs.Table.{distinct}
 use Rattle.rules.proofs.Rows.{zeros}
-use Rattle.index.proofs.Laws.{taken-back}
+use Rattle.rules.proofs.Counts.{taken-back}
 use Rattle.index.specs.Index.{ROOTS, BRANCHES, PLACES, STEPS, idAt, Within, walked, walk, Seated, Filled}
 
 -- an empty index proposes nothing

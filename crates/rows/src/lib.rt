@@ -1,7 +1,7 @@
 // Words and rows of a lent table. A row is counted from 0 here; its number is one more.
 ghost use mathlib.Core.Path.{_≡_};
 ghost use mathlib.Core.Bool.{cond};
-ghost use Prim.Native.Nat.{ℕ, _*_, _<_, _≤_, _^_};
+ghost use Prim.Native.Nat.{_*_, _<_, _≤_, _^_};
 ghost use lib.ListN.{length, getD};
 ghost use Rattle.rules.specs.Limits.{WALLET-LEN};
 ghost use Rattle.rules.specs.Table.{word, put, putRow, tableRight};

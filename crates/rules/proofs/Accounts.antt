@@ -16,7 +16,7 @@ use Rattle.rules.specs.Limits.{WALLET-LEN, ID, BALANCE, LOCKED}
 use Rattle.rules.specs.Table.{word, put, putRow, sum, every, distinct, seek}
 use Rattle.rules.specs.Ledger.{rowOf}
 use Rattle.rules.proofs.Rows.{in-table, word-same, word-row, word-col, word-new, word-old}
-use Rattle.rules.proofs.Counts.{sum-ext, sum-change, sum-step, every-at, every-intro}
+use Rattle.rules.proofs.Counts.{sum-ext, sum-change, sum-step, every-at, taken-back}
 use Rattle.rules.proofs.Seek.{seek-le, seek-hit, seek-more, seek-next, seek-none, seek-at}
 
 -- word k of the wallet of id, 0 if there is none
@@ -69,15 +69,11 @@ distinct-says t n h i l =
     (λ j k. not-true _ (every-at i (λ j. not (eqb (word t WALLET-LEN j ID) (word t WALLET-LEN i ID))) d j k)) (eq-eqb (word t WALLET-LEN i ID) (word t WALLET-LEN i ID) refl)
 
 pub distinct-test : (t : List ℕ) (n : ℕ) → Distinct t n → distinct n (λ i. word t WALLET-LEN i ID) ≡ true
-distinct-test t n d =
-    every-intro n _
-    (λ i l. every-intro i _
-    (λ j k.
-    ap not
-    (ne-eqb (word t WALLET-LEN j ID) (word t WALLET-LEN i ID)
-    (λ e.
-    let r : j ≡ i = sym (d j (omega arith)) ∙ ap (rowOf t n) e ∙ d i l in
-    omega arith))))
+distinct-test t n d = taken-back n (λ i. word t WALLET-LEN i ID) (λ v. rowOf t n v + 1) (λ i l. ap (λ (r : ℕ). r + 1) (d i l))
+
+-- so a row that has the id is the one that is found
+pub first-row : (t : List ℕ) (n x i : ℕ) → distinct n (λ i. word t WALLET-LEN i ID) ≡ true → i < n → word t WALLET-LEN i ID ≡ x → rowOf t n x ≡ i
+first-row t n x i d l e = sym (ap (rowOf t n) e) ∙ distinct-says t n d i l
 
 pub distinct-put : (t : List ℕ) (n i c x : ℕ) → c < WALLET-LEN → ID ≢ c → Distinct t n → Distinct (put t WALLET-LEN i c x) n
 distinct-put t n i c x c< c≢ d j h =

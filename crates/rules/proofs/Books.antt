@@ -3,7 +3,7 @@
 -- which changes neither, and so after the whole list.
 use mathlib.Core.Path.{_≡_, refl, sym, ap, _∙_, subst}
 use mathlib.Core.List.{List, [], _∷_}
-use mathlib.Core.Bool.{true, false, true≢false}
+use mathlib.Core.Bool.{true, true≢false}
 use Prim.Native.Nat.{ℕ, _+_, _-_, _≤_, _<_}
 use native.Mathlib.Omega.{arith}
 use lib.ListN.{getD, length}
@@ -23,9 +23,11 @@ use Rattle.rules.specs.declared.Read.{Read}
 use Rattle.rules.proofs.Bools.{cond-case}
 use Rattle.rules.proofs.Rows.{zeros}
 use Rattle.rules.proofs.Counts.{sum-none}
+use Rattle.rules.proofs.Tests.{header-wide}
+use Rattle.rules.proofs.Formed.{Formed, formed-says, read-formed}
 use Rattle.rules.proofs.Accounts.{bal, bal-found, bal-missing, own}
 use Rattle.rules.proofs.Good.{Good, good-of}
-use Rattle.rules.proofs.Calls.{by-answer, settled, header-length, read-formed, Formed, formed-says, by-op}
+use Rattle.rules.proofs.Calls.{by-answer, settled, by-op}
 use Rattle.rules.proofs.Passed.{sender-row, sender-has, target-some, escrow-row, escrow-open, receipt-row, wallet-place, escrow-place, receipt-place}
 use Rattle.rules.proofs.Demand12.{fresh-zero}
 use Rattle.rules.proofs.Lengths.{lengths-submit, lent-stays, lent-started}
@@ -60,7 +62,7 @@ module _ (L : Ledger) (r : Read) (B : Book) (lent : Lent L) (f : Fits L B) (z : 
   g = good-of L (lent .escrow) (settled L r z .is-sound)
 
   wide : 8 ≤ length (L .header)
-  wide = omega (arith, lent .header, header-length L (lent .lengths))
+  wide = header-wide L (lent .lengths) (lent .header)
 
   some-target : oneOf targeted (r .submission .op) ≡ true → 0 < r .submission .target
   some-target t = omega (arith, target-some L r z t)

@@ -1,5 +1,5 @@
 -- Laws of tests: a list of them joined by `all`, and what `&&`, `||` and `cond` say of their parts.
-use mathlib.Core.Path.{_≡_, refl, sym}
+use mathlib.Core.Path.{_≡_, refl}
 use mathlib.Core.List.{List, [], _∷_}
 use mathlib.Core.Bool.{Bool, true, false, not, cond, _&&_, _||_, true≢false, false≢true}
 use Prim.Native.Nat.{ℕ, zero, suc}
@@ -59,16 +59,6 @@ all-at (b ∷ []) e zero = e
 all-at (b ∷ []) e (suc k) = refl
 all-at (b ∷ c ∷ bs) e zero = and-fst b (all (c ∷ bs)) e
 all-at (b ∷ c ∷ bs) e (suc k) = all-at (c ∷ bs) (and-snd b (all (c ∷ bs)) e) k
-
--- a list of tests holds if each does
-pub all-cons : (b : Bool) (bs : List Bool) → b ≡ true → all bs ≡ true → all (b ∷ bs) ≡ true
-all-cons b [] p q = p
-all-cons b (c ∷ bs) p q = and-intro b (all (c ∷ bs)) p q
-
--- one of two that have the same
-pub cond-same : {A : Type 0} (b : Bool) (x : A) → cond b x x ≡ x
-cond-same true x = refl
-cond-same false x = refl
 
 -- what holds of both, each where it is chosen, holds of the chosen one
 pub cond-case {ℓ κ} : {A : Type ℓ} (P : A → Type κ) (b : Bool) (x y : A) → (b ≡ true → P x) → (b ≡ false → P y) → P (cond b x y)

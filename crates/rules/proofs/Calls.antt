@@ -1,27 +1,26 @@
--- One call of `submit`: it is refused and leaves the ledger, or settled, and then the conditions that did not hold say what is needed. A
--- record that is read is well-formed; a well-formed one has an operation of 1 to 11, and a signer exactly if it is no sweep.
+-- One call of `submit`: it is refused and leaves the ledger, or settled, and then the conditions that did not hold say what is needed.
 use mathlib.Core.Path.{_≡_, refl, sym, subst}
 use mathlib.Core.Logic.{_≢_}
-use mathlib.Core.List.{List, [], _∷_}
-use mathlib.Core.Bool.{Bool, true, false, not, _&&_, _||_, true≢false}
+use mathlib.Core.List.{List}
+use mathlib.Core.Bool.{Bool, true, false, _&&_, _||_}
 use Prim.Native.Nat.{ℕ, zero, suc, _≤_, _<_}
 use native.Mathlib.Omega.{arith}
-use lib.ListN.{getD, length}
 use lib.Dec.{eqb}
-use borrow.Author.Tests.{eqb-true, eqb-false, ne-eqb, leb-true, leb-false}
-use Rattle.rules.specs.Limits.{JOURNAL-LEN, RECORD-BYTES, MARK-0, MARK-1, LAST-TIME-MS}
+use borrow.Author.Tests.{ne-eqb, leb-false}
+use Rattle.rules.specs.Limits.{JOURNAL-LEN}
 use Rattle.rules.specs.Limits.{GRANT, TRANSFER, OPEN, RELEASE, REFUND, CLAIM, ACCEPT, DISPUTE, SWEEP, FREEZE, CAPS}
 use Rattle.rules.specs.Table.{rowsIn, every}
-use Rattle.rules.specs.Ledger.{Ledger, Outcome, outcome, entryCount, full, lengthsRight, lengthTests}
-use Rattle.rules.specs.Record.{wellFormed, formTests, usedOrZero, usesOf, accepted, decode, readOf, nothing}
+use Rattle.rules.specs.Ledger.{Ledger, Outcome, outcome, entryCount, full, lengthsRight}
+use Rattle.rules.specs.Record.{readOf}
 use Rattle.rules.specs.Sound.{sound}
 use Rattle.rules.specs.Refusals.{refusals, entryRefusals, envelopeRefusals, operationRefusals, oneOf, on, signed, seen}
 use Rattle.rules.specs.Settle.{Done, settle}
 use Rattle.rules.specs.Submit.{answerOf, finish, submitRead, submit}
 use Rattle.rules.specs.declared.Submission.{Submission}
 use Rattle.rules.specs.declared.Read.{Read}
-use Rattle.rules.proofs.Bools.{or-other, not-false-true, not-true-false, all-at, cond-case}
+use Rattle.rules.proofs.Bools.{or-other, not-false-true}
 use Rattle.rules.proofs.Counts.{every-at}
+use Rattle.rules.proofs.Formed.{Formed}
 use Rattle.rules.proofs.Refused.{passed}
 
 -- ---- the answer
@@ -70,40 +69,6 @@ settled L r e = record {
 -- a condition on some operations, for one of them
 pub for-op : (s : Submission) (ops : List ℕ) (x : Bool) → oneOf ops (s .op) ≡ true → on s ops x ≡ false → x ≡ false
 for-op s ops x t h = subst (λ (b : Bool). b && x ≡ false) t h
-
-pub header-length : (L : Ledger) → lengthsRight L ≡ true → length (L .header) ≡ L .edition .header
-unfolding lengthsRight
-header-length L h = eqb-true (length (L .header)) (L .edition .header) (all-at (lengthTests L) h 0)
-
--- ---- what was read
-
-pub read-formed : (b : List ℕ) → eqb (readOf b .number) 3 ≡ false → wellFormed (readOf b .submission) ≡ true
-unfolding readOf accepted
-read-formed b =
-    cond-case (λ (r : Read). eqb (r .number) 3 ≡ false → wellFormed (r .submission) ≡ true) (accepted b)
-    (record { number = 0; submission = decode b }) (record { number = 3; submission = nothing })
-    (λ e h. all-at (eqb (length b) RECORD-BYTES ∷ eqb (getD b 0 0) MARK-0 ∷ eqb (getD b 1 0) MARK-1 ∷ wellFormed (decode b) ∷ []) e 3)
-    (λ e h. absurd (true≢false h))
-
-pub record Formed (s : Submission) : Type 0 where
-  pub low : 1 ≤ s .op
-  pub high : s .op ≤ CAPS
-  pub named : s .op ≢ SWEEP → s .signer ≢ 0
-  pub sweep-unsigned : s .op ≡ SWEEP → s .signer ≡ 0
-  pub now-right : s .now ≤ LAST-TIME-MS
-  pub until-right : s .until ≤ LAST-TIME-MS
-
-pub formed-says : (s : Submission) → wellFormed s ≡ true → Formed s
-unfolding wellFormed usesOf
-formed-says s h = record {
-  low = leb-true 1 (s .op) (all-at (formTests s) h 0);
-  high = leb-true (s .op) CAPS (all-at (formTests s) h 1);
-  named = λ ne. eqb-false (s .signer) 0 (not-true-false (eqb (s .signer) 0)
-      (or-other (eqb (s .op) SWEEP) (not (eqb (s .signer) 0)) (ne-eqb (s .op) SWEEP ne) (all-at (formTests s) h 15)));
-  sweep-unsigned = λ e. eqb-true (s .signer) 0 (subst (λ (o : ℕ). usedOrZero (usesOf o .envelope) (s .signer) ≡ true) e (all-at (formTests s) h 3));
-  now-right = leb-true (s .now) LAST-TIME-MS (all-at (formTests s) h 16);
-  until-right = leb-true (s .until) LAST-TIME-MS (all-at (formTests s) h 19);
-}
 
 -- every operation but the sweep is signed: computed for each
 pub signed-op : (o : ℕ) → 1 ≤ o → o ≤ CAPS → o ≢ SWEEP → oneOf signed o ≡ true

@@ -1,5 +1,9 @@
--- P1 to P12 hold of the definitions: one claim over the whole table, which the checker computes through the records' bytes.
-use lib.Dec.{T}
+-- P1 to P12 hold of the definitions: no case of the table fails. Each case is a claim of its own, which the checker computes through the
+-- records' bytes; the label stands first in it, so that the checker's message names the case that fails.
+use mathlib.Core.Path.{_≡_, refl}
+use mathlib.Core.List.{List, [], _∷_}
+use mathlib.Core.Bool.{true}
+use Prim.Native.Nat.{ℕ}
 use Rattle.rules.specs.Table.{sum, every, some, seek, loop}
 use Rattle.rules.specs.Ledger.{rowOf, putHead, putWallet, putEscrow, putReceipt, newWallet, newEscrow, newReceipt, newEntry, lengthsRight, fresh}
 use Rattle.rules.specs.Record.{usesOf, wellFormed, decode, encode, accepted, readOf}
@@ -8,8 +12,22 @@ use Rattle.rules.specs.Refusals.{seenIn, seen, countedOf, counted, entry
 use Rattle.rules.specs.Settle.{raise, lower, ensureWallet, endEscrow, closeReceipt, acceptRow, closeDueReceipt, closeDueEscrow, sweepReceipt, sweepEscrow, sweptReceipts, swept}
 use Rattle.rules.specs.Settle.{grant, transfer, openEscrow, release, refund, claim, accept, dispute, sweep, freeze, caps, operate, enter, settle}
 use Rattle.rules.specs.Submit.{answerOf, submitRead, submit}
-use Rattle.rules.specs.Cases.{cases, allGo}
+use Rattle.rules.specs.Cases.{Step, Case, tables, goes, failing, cases}
 
-pub cases-go : T (allGo cases)
+abbrev Goes : ℕ → List Step → Type 0
+Goes label steps = goes steps (fresh tables .left) ≡ true
+
+abbrev Each : List Case → Type 0
+Each [] = Unit {0}
+Each (c ∷ cs) = Goes (c .label) (c .steps) × Each cs
+
+each-goes : Each cases
 unfolding sum every some seek loop rowOf putHead putWallet putEscrow putReceipt newWallet newEscrow newReceipt newEntry lengthsRight fresh usesOf wellFormed decode encode accepted readOf heldIn credits sound seenIn seen countedOf counted entryRefusals envelopeRefusals operationRefusals refusals raise lower ensureWallet endEscrow closeReceipt acceptRow closeDueReceipt closeDueEscrow sweepReceipt sweepEscrow sweptReceipts swept grant transfer openEscrow release refund claim accept dispute sweep freeze caps operate enter settle answerOf submitRead submit
-cases-go = tt
+each-goes = (refl, (refl, (refl, (refl, (refl, (refl, (refl, (refl, (refl, (refl, (refl, (refl, tt))))))))))))
+
+none-fails : (cs : List Case) → Each cs → failing cs ≡ []
+none-fails [] e = refl
+none-fails (c ∷ cs) (e, es) = rw (e, none-fails cs es)
+
+pub cases-go : failing cases ≡ []
+cases-go = none-fails cases each-goes

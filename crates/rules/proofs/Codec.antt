@@ -8,13 +8,14 @@ use native.Mathlib.Omega.{arith}
 use lib.Dec.{eqb}
 use lib.ListN.{getD, length, drop, length-drop}
 use lib.Seq.{take-all, drop-cons}
-use borrow.Author.Tests.{eqb-true, eq-eqb}
+use borrow.Author.Tests.{eq-eqb}
 use Rattle.rules.specs.Limits.{RECORD-BYTES, MARK-0, MARK-1}
-use Rattle.rules.specs.Record.{decode, encode, wordsOf, wordBytes, wellFormed, nothing, acceptTests, accepted, readOf, Written, writeOf}
+use Rattle.rules.specs.Record.{decode, encode, wordsOf, wordBytes, wellFormed, nothing, accepted, readOf, Written, writeOf}
 use Rattle.rules.specs.Promises.{Fields, Bytes, Written-read, Read-written}
 use Rattle.rules.specs.declared.Submission.{Submission}
 use Rattle.rules.specs.declared.Read.{Read}
-use Rattle.rules.proofs.Bools.{all-at, and-snd}
+use Rattle.rules.proofs.Bools.{and-snd}
+use Rattle.rules.proofs.Formed.{accepted-says}
 use Rattle.rules.proofs.Le.{AllBelow, sums-are, wordsAt, words-are}
 
 -- a submission from its two bytes and its words
@@ -81,7 +82,7 @@ encoded b y h m0 m1 =
 
 -- THE PROMISE: every accepted record, read and written back, is the same bytes
 pub read-written : Read-written
-unfolding readOf accepted writeOf
+unfolding readOf writeOf
 read-written b out y e h = go (accepted b) refl e
   where
     read : Bool → Read
@@ -89,8 +90,7 @@ read-written b out y e h = go (accepted b) refl e
 
     go : (a : Bool) → accepted b ≡ a → read a .number ≡ 0 → writeOf (read a .submission) out ≡ record { number = 0; out = b }
     go true x n =
-        let at : (k : ℕ) → getD (acceptTests b) k true ≡ true = all-at (acceptTests b) x in
-        let l : length b ≡ RECORD-BYTES = eqb-true (length b) RECORD-BYTES (at 0) in
-        let z : encode (decode b) ≡ b = encoded b y l (eqb-true (getD b 0 0) MARK-0 (at 1)) (eqb-true (getD b 1 0) MARK-1 (at 2)) in
-        rw (eq-eqb (length out) RECORD-BYTES h, at 3, z)
+        let a = accepted-says b x in
+        let z : encode (decode b) ≡ b = encoded b y (a .bytes) (a .mark-0) (a .mark-1) in
+        rw (eq-eqb (length out) RECORD-BYTES h, a .formed, z)
     go false x n = let k : _≡_ {A = ℕ} 3 0 = n in absurd (omega arith)

@@ -1,15 +1,17 @@
--- Laws of what is said of the first n of something: sums, tests of every one and of some one. Also each of them one step further, as a
+-- Laws of what is said of the first n of something: sums, tests of every one, of some one and of every two. Also each of them one step further, as a
 -- loop of the code goes.
 use mathlib.Core.Path.{_≡_, refl, sym, ap, ap₂, _∙_, subst}
 use mathlib.Core.Logic.{_≢_}
 use mathlib.Core.Bool.{Bool, true, false, not, _&&_, _||_, true≢false}
-use Prim.Native.Nat.{ℕ, zero, suc, _+_, _-_, _*_, _≤_, _<_}
+use Prim.Native.Nat.{ℕ, zero, suc, _+_, _*_, _≤_, _<_}
 use native.Mathlib.Nat.{not-suc-le-zero}
 use native.Mathlib.Numerals.{add-one}
 use native.Mathlib.Decide.{ℕ-discrete}
 use native.Mathlib.Omega.{arith}
-use Rattle.rules.specs.Table.{sum, every, some}
-use Rattle.rules.proofs.Bools.{and-fst, and-snd, and-intro, or-snd, or-none-fst, or-none-snd}
+use lib.Dec.{eqb}
+use borrow.Author.Tests.{ne-eqb}
+use Rattle.rules.specs.Table.{sum, every, some, distinct}
+use Rattle.rules.proofs.Bools.{and-fst, and-snd, and-intro, or-snd}
 
 -- sums
 pub sum-ext : (n : ℕ) (f g : ℕ → ℕ) → ((i : ℕ) → i < n → f i ≡ g i) → sum n f ≡ sum n g
@@ -107,14 +109,11 @@ unfolding every
 every-intro zero p h = refl
 every-intro (suc n) p h = and-intro (every n p) (p n) (every-intro n p (λ i l. h i (omega arith))) (h n (omega arith))
 
--- one that fails is enough
-pub every-fails : (n : ℕ) (p : ℕ → Bool) (i : ℕ) → i < n → p i ≡ false → every n p ≡ false
-unfolding sum every some
-every-fails n p i h e = go (every n p) refl
-  where
-    go : (b : Bool) → every n p ≡ b → every n p ≡ false
-    go true x = absurd (true≢false (sym (every-at n p x i h) ∙ e))
-    go false x = x
+-- tests that agree on the first n
+pub every-ext : (n : ℕ) (p q : ℕ → Bool) → ((i : ℕ) → i < n → p i ≡ q i) → every n p ≡ every n q
+unfolding every
+every-ext zero p q e = refl
+every-ext (suc n) p q e = ap₂ _&&_ (every-ext n p q (λ i h. e i (omega arith))) (e n (omega arith))
 
 -- a loop that carries the answer so far
 pub every-none : (p : ℕ → Bool) → every 0 p ≡ true
@@ -125,7 +124,30 @@ pub every-step : (n : ℕ) (p : ℕ → Bool) {a b : Bool} → a ≡ every n p �
 unfolding every
 every-step n p x y = rw (add-one, x, y)
 
-pub some-intro-none : (n : ℕ) (p : ℕ → Bool) → ((i : ℕ) → i < n → p i ≡ false) → some n p ≡ false
-unfolding some
-some-intro-none zero p h = refl
-some-intro-none (suc n) p h = rw (some-intro-none n p (λ i l. h i (omega arith)), h n (omega arith))
+-- a loop that stops at the first that fails: so far all pass; one fails; all have passed
+pub every-on : (i : ℕ) (p : ℕ → Bool) → every i p ≡ true → p i ≡ true → every (i + 1) p ≡ true
+every-on i p x y = sym (every-step i p (sym x) (sym y))
+
+pub every-fails : (n i : ℕ) (p : ℕ → Bool) → i < n → p i ≡ false → false ≡ every n p
+every-fails n i p l e = go (every n p) refl
+  where
+    go : (b : Bool) → every n p ≡ b → false ≡ every n p
+    go true x = absurd (true≢false (sym (every-at n p x i l) ∙ e))
+    go false x = sym x
+
+pub every-passed : (n i : ℕ) (p : ℕ → Bool) → i ≤ n → n ≤ i → every i p ≡ true → true ≡ every n p
+every-passed n i p l g x = let e : i ≡ n = omega arith in sym x ∙ ap (λ k. every k p) e
+
+-- no two have the same: of functions that agree, and of one that another takes back
+pub distinct-ext : (n : ℕ) (f g : ℕ → ℕ) → ((i : ℕ) → i < n → f i ≡ g i) → distinct n f ≡ distinct n g
+distinct-ext n f g e =
+    every-ext n (λ i. every i (λ j. not (eqb (f j) (f i)))) (λ i. every i (λ j. not (eqb (g j) (g i))))
+    (λ i h. every-ext i (λ j. not (eqb (f j) (f i))) (λ j. not (eqb (g j) (g i))) (λ j l. ap₂ (λ a b. not (eqb a b)) (e j (omega arith)) (e i h)))
+
+pub taken-back : (n : ℕ) (f g : ℕ → ℕ) → ((i : ℕ) → i < n → g (f i) ≡ i + 1) → distinct n f ≡ true
+taken-back n f g e =
+    every-intro n (λ i. every i (λ j. not (eqb (f j) (f i))))
+    (λ i h. every-intro i (λ j. not (eqb (f j) (f i))) (λ j l. rw (ne-eqb (f j) (f i) (differ i j h l))))
+  where
+    differ : (i j : ℕ) → i < n → j < i → f j ≡ f i → ⊥
+    differ i j h l z = let r : j + 1 ≡ i + 1 = sym (e j (omega arith)) ∙ ap g z ∙ e i h in omega arith

@@ -8,7 +8,7 @@ use Prim.Native.Nat.{ℕ, _+_, _-_, _*_, _≤_, _<_}
 use native.Mathlib.Omega.{arith}
 use lib.ListN.{getD, length, take, drop, length-take, length-drop}
 use lib.Seq.{drop-length, take-nil}
-use lib.Dec.{eqb, ltb, leb, lit≤}
+use lib.Dec.{eqb, ltb, lit≤}
 use borrow.Author.Tests.{ltb-true, leb-true}
 use Rattle.rules.specs.Limits.{RECORD-BYTES, WALLETS, ESCROWS, RECEIPTS, WALLET-LEN, RECEIPT-LEN, MAX-WALLETS, MAX-ESCROWS, MAX-RECEIPTS}
 use Rattle.rules.specs.Table.{rowsIn, tableRight}
@@ -23,6 +23,7 @@ use Rattle.rules.specs.Promises.{Part-answers, Settles-exactly, First-re
 use Rattle.rules.specs.declared.Read.{Read}
 use Rattle.rules.proofs.Bools.{and-fst, and-snd, cond-case}
 use Rattle.rules.proofs.Rows.{room}
+use Rattle.rules.proofs.Tests.{written-low, written-high}
 use Rattle.rules.proofs.Refused.{first-most, first-of, none-of-zero, zero-of-none, table-most, table-numbered}
 use Rattle.rules.proofs.Calls.{by-answer, number-is}
 
@@ -96,8 +97,8 @@ count-within headerLen c len most header t x h =
 row-whole : (headerLen c len most : ℕ) (header t : List ℕ) (k : ℕ) → countRight headerLen c len most header t && written (getD header c 0) k ≡ true → (k - 1) * len + len ≤ length t
 row-whole headerLen c len most header t k e =
     let w : written (getD header c 0) k ≡ true = and-snd (countRight headerLen c len most header t) _ e in
-    let low : 0 < k = ltb-true 0 k (and-fst (ltb 0 k) (leb k (getD header c 0)) w) in
-    let high : k ≤ getD header c 0 = leb-true k (getD header c 0) (and-snd (ltb 0 k) (leb k (getD header c 0)) w) in
+    let low : 1 ≤ k = written-low (getD header c 0) k w in
+    let high : k ≤ getD header c 0 = written-high (getD header c 0) k w in
     let fits : getD header c 0 ≤ rowsIn len t = count-within headerLen c len most header t (written (getD header c 0) k) e in
     room len (k - 1) t (omega arith)
 

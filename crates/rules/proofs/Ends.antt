@@ -18,7 +18,8 @@ use Rattle.rules.proofs.Bools.{cond-case}
 use Rattle.rules.proofs.Rows.{rows-fit, length-put, word-col}
 use Rattle.rules.proofs.Accounts.{bal, total}
 use Rattle.rules.proofs.Moves.{mv, length-mv, row-mv, distinct-mv, mv-col, mv-bal, mv-total, shut, shut-col, shut-first, shut-second, length-shut, held-sum}
-use Rattle.rules.proofs.Good.{State, WRow, ERow, GoodTables, amount-held}
+use Rattle.rules.proofs.Tests.{State, WRow, ERow}
+use Rattle.rules.proofs.Good.{GoodTables, amount-held}
 
 -- ---- an open escrow ends
 

@@ -18,7 +18,8 @@ use Rattle.rules.specs.Settle.{blankWallet, ensureWallet}
 use Rattle.rules.proofs.Bools.{cond-case}
 use Rattle.rules.proofs.Rows.{room, length-put-row, word-new, word-old}
 use Rattle.rules.proofs.Accounts.{bal, row-le, new-row-old, new-row-id, new-bal, new-total, distinct-new}
-use Rattle.rules.proofs.Good.{WRow, GoodTables, Good}
+use Rattle.rules.proofs.Tests.{WRow}
+use Rattle.rules.proofs.Good.{GoodTables, Good}
 
 -- where there is no wallet of id, there is room for one
 abbrev pub WalletPlace : Ledger → ℕ → Type 0

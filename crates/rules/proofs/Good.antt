@@ -8,43 +8,19 @@ use mathlib.Core.Bool.{Bool, true, false, cond, _&&_}
 use Prim.Native.Nat.{ℕ, _+_, _-_, _≤_, _<_}
 use native.Mathlib.Decide.{decLt}
 use native.Mathlib.Omega.{arith}
-use lib.Dec.{eqb, ltb, leb}
-use borrow.Author.Tests.{eqb-true, eqb-false, eq-eqb, ne-eqb, ltb-true, leb-true, not-true}
-use Rattle.rules.specs.Limits.{WALLET-LEN, RECEIPT-LEN, LAST-TIME-MS, MAX-AMOUNT-MICRO, MAX-GRANTED-MICRO, GRANTED, ID, BALANCE, LOCKED, FROZEN, IS-OPEN}
-use Rattle.rules.specs.Limits.{FROM, TO, ESCROW-AMOUNT, ESCROW-DEADLINE, ESCROW-STATE, OPENED-AT, ESCROW-CLOSED-AT}
-use Rattle.rules.specs.Limits.{PROVIDER, REQUESTER, RECEIPT-LINK, ACCEPTANCE-DEADLINE, AUTO-ACCEPT, RECEIPT-STATE, CLAIMED-AT, RECEIPT-CLOSED-AT}
-use Rattle.rules.specs.Table.{word, rowsIn, all, sum}
+use lib.Dec.{eqb}
+use borrow.Author.Tests.{eqb-true, eq-eqb, ne-eqb}
+use Rattle.rules.specs.Limits.{WALLET-LEN, RECEIPT-LEN, MAX-AMOUNT-MICRO, MAX-GRANTED-MICRO, GRANTED, BALANCE, LOCKED, IS-OPEN}
+use Rattle.rules.specs.Limits.{FROM, TO, ESCROW-AMOUNT, ESCROW-STATE}
+use Rattle.rules.specs.Limits.{PROVIDER, REQUESTER, RECEIPT-LINK}
+use Rattle.rules.specs.Table.{word, rowsIn, sum}
 use Rattle.rules.specs.Ledger.{Ledger, head, wallet, escrow, receipt, walletCount, escrowCount, receiptCount, rowOf, walletRow, walletOf, written}
-use Rattle.rules.specs.Sound.{heldIn, credits, headerTests, walletTests, escrowTests, receiptTests, soundTests, sound}
-use Rattle.rules.proofs.Bools.{and-fst, and-snd, or-other, all-at}
-use Rattle.rules.proofs.Counts.{le-sum, sum-zero, every-at}
+use Rattle.rules.specs.Sound.{heldIn, credits, sound}
+use Rattle.rules.proofs.Bools.{and-fst, and-snd, or-other}
+use Rattle.rules.proofs.Counts.{le-sum, sum-zero}
+use Rattle.rules.proofs.Tests.{written-high, WRow, ERow, RRow, Right-ledger, sound-says}
 use Rattle.rules.proofs.Accounts.{bal, total, row-hit, bal-found, bal-missing, Distinct, distinct-says}
 use Rattle.rules.proofs.Moves.{held-at}
-
-abbrev pub State : ℕ → Type 0
-State x = (1 ≤ x) × (x ≤ 4)
-
--- ---- one row of a sound ledger
-
-pub record WRow (t : List ℕ) (i : ℕ) : Type 0 where
-  pub id : 0 < word t WALLET-LEN i ID
-  pub frozen : word t WALLET-LEN i FROZEN ≤ 1
-
-pub record ERow (t : List ℕ) (len i : ℕ) : Type 0 where
-  pub parties : word t len i FROM ≢ word t len i TO
-  pub low : 1 ≤ word t len i ESCROW-AMOUNT
-  pub high : word t len i ESCROW-AMOUNT ≤ MAX-AMOUNT-MICRO
-  pub until : word t len i ESCROW-DEADLINE ≤ LAST-TIME-MS
-  pub opened : word t len i OPENED-AT ≤ LAST-TIME-MS
-  pub closed : word t len i ESCROW-CLOSED-AT ≤ LAST-TIME-MS
-  pub state : State (word t len i ESCROW-STATE)
-
-pub record RRow (t : List ℕ) (i : ℕ) : Type 0 where
-  pub until : word t RECEIPT-LEN i ACCEPTANCE-DEADLINE ≤ LAST-TIME-MS
-  pub claimed : word t RECEIPT-LEN i CLAIMED-AT ≤ LAST-TIME-MS
-  pub closed : word t RECEIPT-LEN i RECEIPT-CLOSED-AT ≤ LAST-TIME-MS
-  pub auto : word t RECEIPT-LEN i AUTO-ACCEPT ≤ 1
-  pub state : State (word t RECEIPT-LEN i RECEIPT-STATE)
 
 -- a linked receipt's parties are those of its escrow
 pub record Parties (es : List ℕ) (len : ℕ) (rs : List ℕ) (i : ℕ) : Type 0 where
@@ -77,43 +53,24 @@ Good L =
 -- ---- what soundness says
 
 module _ (L : Ledger) (wide : 8 ≤ L .edition .escrow) (sound-L : sound L ≡ true) where
-  header-test : all (headerTests L) ≡ true
-  unfolding sound
-  header-test = all-at (soundTests L) sound-L 0
-
-  wallet-test : (i : ℕ) → i < walletCount L → all (walletTests L i) ≡ true
-  unfolding sound
-  wallet-test i l = every-at (walletCount L) (λ i. all (walletTests L i)) (all-at (soundTests L) sound-L 1) i l
-
-  escrow-test : (i : ℕ) → i < escrowCount L → all (escrowTests L i) ≡ true
-  unfolding sound
-  escrow-test i l = every-at (escrowCount L) (λ i. all (escrowTests L i)) (all-at (soundTests L) sound-L 3) i l
-
-  receipt-test : (i : ℕ) → i < receiptCount L → all (receiptTests L i) ≡ true
-  unfolding sound
-  receipt-test i l = every-at (receiptCount L) (λ i. all (receiptTests L i)) (all-at (soundTests L) sound-L 4) i l
-
-  from-says : (i : ℕ) → i < escrowCount L → walletRow L (escrow L i FROM) < walletCount L
-  from-says i l = ltb-true _ _ (all-at (escrowTests L i) (escrow-test i l) 0)
+  right : Right-ledger L
+  right = sound-says L sound-L
 
   -- locked is the sum of the open escrows, of an id without a wallet too: no escrow names it
   locked-says : (v : ℕ) → bal (L .wallets) (walletCount L) v LOCKED ≡ sum (escrowCount L) (held-at (L .escrows) (L .edition .escrow) v)
-  unfolding sound heldIn
+  unfolding heldIn
   locked-says v = go (decLt (walletRow L v) (walletCount L))
     where
       go : Dec (walletRow L v < walletCount L)
           → bal (L .wallets) (walletCount L) v LOCKED ≡ sum (escrowCount L) (held-at (L .escrows) (L .edition .escrow) v)
       go (yes l) =
-          let i : ℕ = walletRow L v in
-          let e : wallet L i LOCKED ≡ sum (escrowCount L) (heldIn L (wallet L i ID)) =
-          eqb-true _ _ (every-at (walletCount L) (λ i. eqb (wallet L i LOCKED) (sum (escrowCount L) (heldIn L (wallet L i ID)))) (all-at (soundTests L) sound-L 6) i l) in
-          bal-found (L .wallets) (walletCount L) v LOCKED l ∙ e ∙ ap (λ (u : ℕ). sum (escrowCount L) (heldIn L u)) (row-hit (L .wallets) (walletCount L) v l)
+          bal-found (L .wallets) (walletCount L) v LOCKED l ∙ right .locked (walletRow L v) l ∙ ap (λ (u : ℕ). sum (escrowCount L) (heldIn L u)) (row-hit (L .wallets) (walletCount L) v l)
       go (no l) =
           bal-missing (L .wallets) (walletCount L) v LOCKED (omega (arith, l))
           ∙ sym (sum-zero (escrowCount L) (held-at (L .escrows) (L .edition .escrow) v)
           (λ i h.
           ap (λ (b : Bool). cond (b && eqb (escrow L i ESCROW-STATE) IS-OPEN) (escrow L i ESCROW-AMOUNT) 0)
-          (ne-eqb (escrow L i FROM) v (λ e. l (subst (λ (u : ℕ). walletRow L u < walletCount L) e (from-says i h))))))
+          (ne-eqb (escrow L i FROM) v (λ e. l (subst (λ (u : ℕ). walletRow L u < walletCount L) e (right .escrows i h .from))))))
 
   link-says : (i : ℕ) → i < receiptCount L → receipt L i RECEIPT-LINK ≤ escrowCount L
   link-says i l = go (eqb (receipt L i RECEIPT-LINK) 0) refl
@@ -121,71 +78,38 @@ module _ (L : Ledger) (wide : 8 ≤ L .edition .escrow) (sound-L : sound L ≡ t
       go : (b : Bool) → eqb (receipt L i RECEIPT-LINK) 0 ≡ b → receipt L i RECEIPT-LINK ≤ escrowCount L
       go true e = omega (arith, eqb-true (receipt L i RECEIPT-LINK) 0 e)
       go false e =
-          leb-true _ _ (and-snd (ltb 0 (receipt L i RECEIPT-LINK)) _
-          (and-fst (written (escrowCount L) (receipt L i RECEIPT-LINK)) _
-          (or-other (eqb (receipt L i RECEIPT-LINK) 0) _ e (all-at (receiptTests L i) (receipt-test i l) 0))))
+          written-high _ _ (and-fst (written (escrowCount L) (receipt L i RECEIPT-LINK)) _
+          (or-other (eqb (receipt L i RECEIPT-LINK) 0) _ e (right .receipts i l .link)))
 
   parties-say : (i : ℕ) → i < receiptCount L → receipt L i RECEIPT-LINK ≢ 0 → Parties (L .escrows) (L .edition .escrow) (L .receipts) i
   parties-say i l some-link =
       let k : ℕ = receipt L i RECEIPT-LINK in
-      let t = or-other (eqb k 0) _ (ne-eqb k 0 some-link) (all-at (receiptTests L i) (receipt-test i l) 0) in
+      let t = or-other (eqb k 0) _ (ne-eqb k 0 some-link) (right .receipts i l .link) in
       let u = and-snd (written (escrowCount L) k) _ t in
       record {
         from = eqb-true _ _ (and-fst (eqb (escrow L (k - 1) FROM) (receipt L i REQUESTER)) _ u);
         to = eqb-true _ _ (and-snd (eqb (escrow L (k - 1) FROM) (receipt L i REQUESTER)) _ u);
       }
 
-  escrow-says : (i : ℕ) → i < escrowCount L → ERow (L .escrows) (L .edition .escrow) i
-  escrow-says i l =
-      let t = all-at (escrowTests L i) (escrow-test i l) in
-      record {
-        parties = eqb-false _ _ (not-true _ (t 2));
-        low = leb-true _ _ (and-fst (leb 1 (escrow L i ESCROW-AMOUNT)) _ (t 3));
-        high = leb-true _ _ (and-snd (leb 1 (escrow L i ESCROW-AMOUNT)) _ (t 3));
-        until = leb-true _ _ (t 4);
-        opened = leb-true _ _ (t 5);
-        closed = leb-true _ _ (t 6);
-        state = (leb-true _ _ (and-fst (leb 1 (escrow L i ESCROW-STATE)) _ (t 7)), leb-true _ _ (and-snd (leb 1 (escrow L i ESCROW-STATE)) _ (t 7)));
-      }
-
-  receipt-says : (i : ℕ) → i < receiptCount L → RRow (L .receipts) i
-  receipt-says i l =
-      let t = all-at (receiptTests L i) (receipt-test i l) in
-      record {
-        until = leb-true _ _ (t 1);
-        claimed = leb-true _ _ (t 2);
-        closed = leb-true _ _ (t 3);
-        auto = leb-true _ _ (t 4);
-        state = (leb-true _ _ (and-fst (leb 1 (receipt L i RECEIPT-STATE)) _ (t 5)), leb-true _ _ (and-snd (leb 1 (receipt L i RECEIPT-STATE)) _ (t 5)));
-      }
-
-  wallet-says : (i : ℕ) → i < walletCount L → WRow (L .wallets) i
-  wallet-says i l =
-      let t = all-at (walletTests L i) (wallet-test i l) in
-      let id≢ : wallet L i ID ≢ 0 = eqb-false (wallet L i ID) 0 (not-true _ (t 0)) in
-      record { id = omega arith; frozen = leb-true _ _ (t 1) }
-
   pub good-of : Good L
-  unfolding sound credits
-  good-of =
-      let t = all-at (soundTests L) sound-L in
-      record {
-        wide = wide;
-        wallets-in = leb-true _ _ (all-at (headerTests L) header-test 3);
-        escrows-in = leb-true _ _ (all-at (headerTests L) header-test 4);
-        receipts-in = leb-true _ _ (all-at (headerTests L) header-test 5);
-        distinct = distinct-says (L .wallets) (walletCount L) (t 2);
-        totals = eqb-true _ _ (t 7);
-        most = leb-true _ _ (t 8);
-        from-row = from-says;
-        to-row = λ i l. ltb-true _ _ (all-at (escrowTests L i) (escrow-test i l) 1);
-        locked = locked-says;
-        links = link-says;
-        linked = parties-say;
-        wallet-rows = wallet-says;
-        escrow-rows = escrow-says;
-        receipt-rows = receipt-says;
-      }
+  unfolding credits
+  good-of = record {
+    wide = wide;
+    wallets-in = right .header .within .wallets;
+    escrows-in = right .header .within .escrows;
+    receipts-in = right .header .within .receipts;
+    distinct = distinct-says (L .wallets) (walletCount L) (right .apart);
+    totals = right .total;
+    most = right .most;
+    from-row = λ i l. right .escrows i l .from;
+    to-row = λ i l. right .escrows i l .to;
+    locked = locked-says;
+    links = link-says;
+    linked = parties-say;
+    wallet-rows = right .wallets;
+    escrow-rows = λ i l. right .escrows i l .own;
+    receipt-rows = λ i l. right .receipts i l .own;
+  }
 
 -- ---- what follows for amounts
 
@@ -225,10 +149,6 @@ module _ (L : Ledger) (good : Good L) where
 
   pub locked-most : (i : ℕ) → i < walletCount L → wallet L i LOCKED ≤ MAX-GRANTED-MICRO
   locked-most i l = omega (arith, wallet-granted i l, good .most)
-
-  pub credits-are : credits L ≡ head L GRANTED
-  unfolding credits
-  credits-are = good .totals
 
   pub amount-most : (i : ℕ) → i < escrowCount L → escrow L i ESCROW-AMOUNT ≤ MAX-AMOUNT-MICRO
   amount-most i l = good .escrow-rows i l .high

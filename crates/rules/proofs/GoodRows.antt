@@ -18,7 +18,8 @@ use Rattle.rules.proofs.Rows.{rows-fit, room, word-col, word-new, word-
 use Rattle.rules.proofs.Counts.{sum-ext, sum-step}
 use Rattle.rules.proofs.Accounts.{bal, total, row-put, Distinct}
 use Rattle.rules.proofs.Moves.{mv, mv-bal, mv-total, held-at, and-true, eqb-sym}
-use Rattle.rules.proofs.Good.{State, WRow, ERow, RRow, Parties, GoodTables}
+use Rattle.rules.proofs.Tests.{State, WRow, ERow, RRow}
+use Rattle.rules.proofs.Good.{Parties, GoodTables}
 
 -- ---- words of wallets set, but no id
 

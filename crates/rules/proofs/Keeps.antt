@@ -11,7 +11,7 @@ use lib.ListN.{getD, set, length, length-set}
 use lib.Seq.{getD-set-same, getD-set-other, set-out}
 use lib.Dec.{eqb, ltb}
 use Rattle.rules.specs.Limits.{WALLET-LEN, RECEIPT-LEN, EDITION, SYSTEM-FROZEN, CLOCK, GRANTED, WALLETS, ESCROWS, RECEIPTS, ENTRIES}
-use Rattle.rules.specs.Limits.{RECEIPT-LINK, AUTO-ACCEPT, AUTO-OR-FREEZE, ACCEPTED, LAPSED, EXPIRED, RELEASED, FROZEN}
+use Rattle.rules.specs.Limits.{RECEIPT-LINK, AUTO-ACCEPT, AUTO-OR-FREEZE, ACCEPTED, RELEASED, FROZEN}
 use Rattle.rules.specs.Table.{loop}
 use Rattle.rules.specs.Ledger.{Ledger, head, receipt, entryCount, receiptCount, escrowCount, walletRow, hasWallet, setWallets, setEscrows, setReceipts}
 use Rattle.rules.specs.Ledger.{putHead, putWallet, putEscrow, putReceipt, newWallet, newEscrow, newReceipt}

@@ -18,7 +18,8 @@ use Rattle.rules.specs.Promises.{Lent, started, Same-lengths, Lengths-st
 use Rattle.rules.specs.declared.Submission.{Submission}
 use Rattle.rules.proofs.Bools.{cond-case}
 use Rattle.rules.proofs.Rows.{length-put-row}
-use Rattle.rules.proofs.Calls.{by-left, header-length}
+use Rattle.rules.proofs.Tests.{lengths-say}
+use Rattle.rules.proofs.Calls.{by-left}
 use Rattle.rules.proofs.Keeps.{lengths-same, lengths-then, beforeEntry, keeps-before}
 
 lengths-entry : (vs : List ℕ) (L : Ledger) → Same-lengths (newEntry vs L) L
@@ -48,7 +49,7 @@ lengths-started L h =
     cond-case (λ (o : Outcome). Same-lengths (o .left) L) (lengthsRight L) (outcome 0 0 (setHeader (freshHeader (L .edition)) L)) (outcome 1 0 L)
     (λ e. record {
       edition = refl;
-      header = omega (arith, length-replicate {A = ℕ} (L .edition .header - 1) 0, header-length L e, h);
+      header = omega (arith, length-replicate {A = ℕ} (L .edition .header - 1) 0, lengths-say L e .header, h);
       wallets = refl;
       escrows = refl;
       receipts = refl;

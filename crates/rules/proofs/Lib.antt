@@ -4,6 +4,10 @@ pub mod Rows
 pub mod UpTo
 pub mod Counts
 pub mod Seek
+-- the named lists of tests, as facts by name
+pub mod Tests
+pub mod Formed
+-- numbers as bytes, and the record read back
 pub mod Below
 pub mod Le
 pub mod Codec

@@ -6,10 +6,10 @@ use mathlib.Core.List.{[], _∷_}
 use mathlib.Core.Bool.{Bool, true, false, not, _&&_, _||_}
 use Prim.Native.Nat.{ℕ, _+_, _-_, _≤_, _<_}
 use native.Mathlib.Omega.{arith}
-use lib.Dec.{eqb, ltb, leb}
+use lib.Dec.{eqb, leb}
 use borrow.Author.Tests.{eqb-true, eqb-false, ne-eqb, ltb-true, ltb-false, leb-true, leb-false}
 use Rattle.rules.specs.Limits.{WALLET-LEN, RECEIPT-LEN, MAX-AMOUNT-MICRO, MAX-GRANTED-MICRO, GRANTED, BALANCE, FROM, TO, ESCROW-STATE, ESCROW-DEADLINE, IS-OPEN}
-use Rattle.rules.specs.Limits.{GRANT, TRANSFER, OPEN, CLAIM, ACCEPT, DISPUTE, FREEZE, CAPS}
+use Rattle.rules.specs.Limits.{GRANT, TRANSFER, OPEN, CLAIM, ACCEPT, DISPUTE}
 use Rattle.rules.specs.Table.{rowsIn}
 use Rattle.rules.specs.Ledger.{Ledger, head, escrow, walletCount, escrowCount, receiptCount, walletRow, hasWallet, walletOf, written}
 use Rattle.rules.specs.Sound.{between}
@@ -18,6 +18,7 @@ use Rattle.rules.specs.Submit.{answerOf}
 use Rattle.rules.specs.declared.Submission.{Submission}
 use Rattle.rules.specs.declared.Read.{Read}
 use Rattle.rules.proofs.Bools.{and-fst, and-snd, or-none-fst, or-none-snd, not-false-true}
+use Rattle.rules.proofs.Tests.{written-low, written-high}
 use Rattle.rules.proofs.Refused.{passed}
 use Rattle.rules.proofs.Calls.{for-op}
 
@@ -27,17 +28,14 @@ there a x t h = subst (λ (b : Bool). b && x ≡ false) t h
 
 -- a number that names one of n written rows is the number after one of them
 pub written-row : (n k : ℕ) → written n k ≡ true → k - 1 < n
-written-row n k h =
-    let low : 0 < k = ltb-true 0 k (and-fst (ltb 0 k) (leb k n) h) in
-    let high : k ≤ n = leb-true k n (and-snd (ltb 0 k) (leb k n) h) in
-    omega arith
+written-row n k h = omega (arith, written-low n k h, written-high n k h)
 
 module _ (L : Ledger) (r : Read) (z : answerOf L r ≡ 0) where
   abbrev s : Submission
   s = r .submission
 
   -- 12
-  amount-right : oneOf (GRANT ∷ TRANSFER ∷ OPEN ∷ []) (s .op) ≡ true → between 1 MAX-AMOUNT-MICRO (s .amount) ≡ true
+  pub amount-right : oneOf (GRANT ∷ TRANSFER ∷ OPEN ∷ []) (s .op) ≡ true → between 1 MAX-AMOUNT-MICRO (s .amount) ≡ true
   unfolding refusals entryRefusals envelopeRefusals operationRefusals
   amount-right t = not-false-true _ (for-op s (GRANT ∷ TRANSFER ∷ OPEN ∷ []) (not (between 1 MAX-AMOUNT-MICRO (s .amount))) t (or-none-fst _ _ (passed L r z 12)))
 
@@ -68,13 +66,6 @@ module _ (L : Ledger) (r : Read) (z : answerOf L r ≡ 0) where
   target-other t =
       eqb-false (s .target) (s .signer) (for-op s (TRANSFER ∷ OPEN ∷ CLAIM ∷ []) (eqb (s .target) (s .signer)) t
       (or-none-snd (on s (GRANT ∷ TRANSFER ∷ OPEN ∷ CLAIM ∷ []) (eqb (s .target) 0)) _ (passed L r z 15)))
-
-  -- 16
-  pub capped-row : oneOf (CAPS ∷ []) (s .op) ≡ true → walletRow L (s .target) < walletCount L
-  unfolding refusals entryRefusals envelopeRefusals operationRefusals
-  capped-row t =
-      ltb-true _ _ (not-false-true _ (for-op s (CAPS ∷ []) (not (hasWallet L (s .target))) t
-      (or-none-snd (on s (FREEZE ∷ []) (not (eqb (s .target) 0) && not (hasWallet L (s .target)))) _ (passed L r z 16))))
 
   -- 27, 29
   pub escrow-written : oneOf closing (s .op) ≡ true → written (escrowCount L) (s .target) ≡ true
@@ -111,11 +102,12 @@ module _ (L : Ledger) (r : Read) (z : answerOf L r ≡ 0) where
   link-to t ne = eqb-true _ _ (not-false-true _ (or-none-snd (not (eqb (escrow L (s .link - 1) FROM) (s .target))) _ (parties-match t ne)))
 
   -- 32
-  pub receipt-row : oneOf (ACCEPT ∷ DISPUTE ∷ []) (s .op) ≡ true → s .target - 1 < receiptCount L
+  pub receipt-written : oneOf (ACCEPT ∷ DISPUTE ∷ []) (s .op) ≡ true → written (receiptCount L) (s .target) ≡ true
   unfolding refusals entryRefusals envelopeRefusals operationRefusals
-  receipt-row t =
-      written-row (receiptCount L) (s .target)
-      (not-false-true _ (for-op s (ACCEPT ∷ DISPUTE ∷ []) (not (written (receiptCount L) (s .target))) t (passed L r z 32)))
+  receipt-written t = not-false-true _ (for-op s (ACCEPT ∷ DISPUTE ∷ []) (not (written (receiptCount L) (s .target))) t (passed L r z 32))
+
+  pub receipt-row : oneOf (ACCEPT ∷ DISPUTE ∷ []) (s .op) ≡ true → s .target - 1 < receiptCount L
+  receipt-row t = written-row (receiptCount L) (s .target) (receipt-written t)
 
   -- 36
   pub grant-within : oneOf (GRANT ∷ []) (s .op) ≡ true → head L GRANTED + s .amount ≤ MAX-GRANTED-MICRO

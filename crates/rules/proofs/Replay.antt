@@ -24,7 +24,9 @@ use Rattle.rules.specs.declared.Submission.{Submission}
 use Rattle.rules.proofs.Bools.{and-fst, and-snd, and-intro, not-true-false, cond-case}
 use Rattle.rules.proofs.Rows.{room, word-new, word-old}
 use Rattle.rules.proofs.Counts.{some-of, some-mono}
-use Rattle.rules.proofs.Calls.{by-left, number-is, settled, header-length, Formed, formed-says, read-formed, settled-signed}
+use Rattle.rules.proofs.Tests.{header-wide}
+use Rattle.rules.proofs.Formed.{Formed, formed-says, read-formed}
+use Rattle.rules.proofs.Calls.{by-left, number-is, settled, settled-signed}
 use Rattle.rules.proofs.Demand12.{fresh-refused, refusal-changes-nothing}
 use Rattle.rules.proofs.Keeps.{Keeps, beforeEntry, keeps-before}
 use Rattle.rules.proofs.Lengths.{lengths-submit, lengths-call, by-call}
@@ -81,7 +83,7 @@ module _ (s : Submission) (L : Ledger) (wide : ENTRIES < length (L .header)) whe
 -- ---- calls
 
 wide-of : (L : Ledger) (b : List ℕ) → answerOf L (readOf b) ≡ 0 → HEADER-LEN ≤ L .edition .header → ENTRIES < length (L .header)
-wide-of L b e h = omega (arith, header-length L (settled L (readOf b) e .lengths))
+wide-of L b e h = header-wide L (settled L (readOf b) e .lengths) h
 
 -- no start in the whole history is none in either part
 unbroken-parts : (xs ys : List Event) → unbroken (xs ++ ys) ≡ true → (unbroken xs ≡ true) × (unbroken ys ≡ true)

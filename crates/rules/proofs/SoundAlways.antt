@@ -9,14 +9,14 @@ use native.Mathlib.Omega.{arith}
 use lib.ListN.{getD, set, length, length-set}
 use lib.Seq.{getD-set-same, getD-set-other}
 use lib.Dec.{eqb, lit<, lit≤}
-use borrow.Author.Tests.{eqb-true, eqb-false, leb-true, le-leb}
+use borrow.Author.Tests.{eqb-true, eqb-false, le-leb}
 use Rattle.rules.specs.Limits.{JOURNAL-LEN, LAST-TIME-MS, MAX-AMOUNT-MICRO, GRANT, TRANSFER, OPEN, SWEEP}
 use Rattle.rules.specs.Limits.{EDITION, SYSTEM-FROZEN, CLOCK, GRANTED, WALLETS, ESCROWS, RECEIPTS, ENTRIES, LOCKED, OPERATION, ENTRY-AMOUNT, SETTLED-AT}
 use Rattle.rules.specs.Table.{word, putRow, rowsIn}
 use Rattle.rules.specs.Ledger.{Edition, Ledger, Outcome, outcome, head, walletCount, escrowCount, receiptCount, entryCount}
 use Rattle.rules.specs.Ledger.{setHeader, putHead, newEntry, lengthsRight, freshHeader, fresh}
 use Rattle.rules.specs.Record.{readOf}
-use Rattle.rules.specs.Sound.{time, between, headerTests, soundTests, sound}
+use Rattle.rules.specs.Sound.{time, between, sound}
 use Rattle.rules.specs.Refusals.{refusals, entryRefusals, envelopeRefusals, operationRefusals, oneOf}
 use Rattle.rules.specs.Settle.{operate, entryOf, enter, settle}
 use Rattle.rules.specs.Submit.{answerOf}
@@ -24,17 +24,19 @@ use Rattle.rules.specs.History.{Call, leaves, after}
 use Rattle.rules.specs.Promises.{Lent, started, Sound-always, Sound-settles, Never-damaged, Rows-stay-within}
 use Rattle.rules.specs.declared.Submission.{Submission}
 use Rattle.rules.specs.declared.Read.{Read}
-use Rattle.rules.proofs.Bools.{and-intro, all-at, cond-case}
+use Rattle.rules.proofs.Bools.{and-intro, cond-case}
 use Rattle.rules.proofs.Rows.{room, word-new, word-old, length-put-row, zeros}
 use Rattle.rules.proofs.Counts.{sum-none}
+use Rattle.rules.proofs.Tests.{header-wide, sound-says}
+use Rattle.rules.proofs.Formed.{Formed, formed-says, read-formed}
 use Rattle.rules.proofs.Accounts.{bal-missing}
 use Rattle.rules.proofs.Good.{GoodTables, Good}
 use Rattle.rules.proofs.GoodRows.{new-or-old}
 use Rattle.rules.proofs.SoundStays.{good-counts, good-head, good-operate}
 use Rattle.rules.proofs.SoundParts.{GoodJournal, GoodHeader, journal-of, header-of, sound-of}
 use Rattle.rules.proofs.Refused.{first-holds}
-use Rattle.rules.proofs.Calls.{by-left, number-is, settled, header-length, Formed, formed-says, read-formed, settled-signed}
-use Rattle.rules.proofs.Passed.{amount-low, amount-high}
+use Rattle.rules.proofs.Calls.{by-left, number-is, settled, settled-signed}
+use Rattle.rules.proofs.Passed.{amount-right}
 use Rattle.rules.proofs.Keeps.{Keeps, beforeEntry, keeps-before}
 use Rattle.rules.proofs.Lengths.{by-call, lent-call, lent-started}
 
@@ -102,7 +104,7 @@ module _ (L : Ledger) (r : Read) (z : answerOf L r ≡ 0) (form : Formed (r .sub
   kept = keeps-before s L
 
   head-wide : 8 ≤ length (L .header)
-  head-wide = omega (arith, header-length L (lent .lengths), lent .header)
+  head-wide = header-wide L (lent .lengths) (lent .header)
 
   wide-M : 8 ≤ length (M .header)
   wide-M = omega (arith, kept .lengths .header, head-wide)
@@ -131,21 +133,18 @@ module _ (L : Ledger) (r : Read) (z : answerOf L r ≡ 0) (form : Formed (r .sub
             (sym (kept .rows)) (j .rows i (subst (λ (n : ℕ). i < n) (kept .count) l));
       }
 
-  amount-right : eqb (s .op) TRANSFER || eqb (s .op) OPEN ≡ true → between 1 MAX-AMOUNT-MICRO (s .amount) ≡ true
-  amount-right h = go (eqb (s .op) TRANSFER) refl
+  amount-entered : eqb (s .op) TRANSFER || eqb (s .op) OPEN ≡ true → between 1 MAX-AMOUNT-MICRO (s .amount) ≡ true
+  amount-entered h = go (eqb (s .op) TRANSFER) refl
     where
-      right : oneOf (GRANT ∷ TRANSFER ∷ OPEN ∷ []) (s .op) ≡ true → between 1 MAX-AMOUNT-MICRO (s .amount) ≡ true
-      right t = and-intro _ _ (le-leb 1 (s .amount) (amount-low L r z t)) (le-leb (s .amount) MAX-AMOUNT-MICRO (amount-high L r z t))
-
       go : (b : Bool) → eqb (s .op) TRANSFER ≡ b → between 1 MAX-AMOUNT-MICRO (s .amount) ≡ true
-      go true e = right (ap (oneOf (GRANT ∷ TRANSFER ∷ OPEN ∷ [])) (eqb-true (s .op) TRANSFER e))
-      go false e = right (ap (oneOf (GRANT ∷ TRANSFER ∷ OPEN ∷ [])) (eqb-true (s .op) OPEN (subst (λ (b : Bool). b || eqb (s .op) OPEN ≡ true) e h)))
+      go true e = amount-right L r z (ap (oneOf (GRANT ∷ TRANSFER ∷ OPEN ∷ [])) (eqb-true (s .op) TRANSFER e))
+      go false e = amount-right L r z (ap (oneOf (GRANT ∷ TRANSFER ∷ OPEN ∷ [])) (eqb-true (s .op) OPEN (subst (λ (b : Bool). b || eqb (s .op) OPEN ≡ true) e h)))
 
   row-right : entryRight (s .now) (s .op) (s .amount) ≡ true
   row-right = and-intro _ _ (le-leb (s .now) LAST-TIME-MS (form .now-right)) (go (eqb (s .op) TRANSFER || eqb (s .op) OPEN) refl)
     where
       go : (b : Bool) → eqb (s .op) TRANSFER || eqb (s .op) OPEN ≡ b → not b || between 1 MAX-AMOUNT-MICRO (s .amount) ≡ true
-      go true e = amount-right e
+      go true e = amount-entered e
       go false e = refl
 
   sound-settled : sound (settle s L .after) ≡ true
@@ -227,8 +226,4 @@ never-damaged L lent calls b e =
     false≢true (subst (λ (x : Bool). not x || false ≡ true) (sound-always L lent calls) h)
 
 pub rows-stay-within : Rows-stay-within
-unfolding sound
-rows-stay-within L lent calls =
-    let N : Ledger = after (started L) calls in
-    let t = all-at (headerTests N) (all-at (soundTests N) (sound-always L lent calls) 0) in
-    record { wallets = leb-true _ _ (t 3); escrows = leb-true _ _ (t 4); receipts = leb-true _ _ (t 5); journal = leb-true _ _ (t 6) }
+rows-stay-within L lent calls = sound-says (after (started L) calls) (sound-always L lent calls) .header .within

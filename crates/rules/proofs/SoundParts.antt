@@ -5,16 +5,17 @@ use mathlib.Core.Bool.{Bool, true, false, not, _||_}
 use Prim.Native.Nat.{ℕ, _-_, _≤_, _<_}
 use native.Mathlib.Omega.{arith}
 use lib.Dec.{eqb}
-use borrow.Author.Tests.{eqb-true, eqb-false, eq-eqb, ne-eqb, lt-ltb, leb-true, le-leb}
+use borrow.Author.Tests.{eqb-false, eq-eqb, ne-eqb, lt-ltb, le-leb}
 use Rattle.rules.specs.Limits.{JOURNAL-LEN, LAST-TIME-MS, MAX-AMOUNT-MICRO, MAX-GRANTED-MICRO}
 use Rattle.rules.specs.Limits.{EDITION, SYSTEM-FROZEN, CLOCK, GRANTED, ID, LOCKED, FROZEN}
 use Rattle.rules.specs.Limits.{FROM, TO, ESCROW-AMOUNT, ESCROW-DEADLINE, ESCROW-STATE, OPENED-AT, ESCROW-CLOSED-AT}
 use Rattle.rules.specs.Limits.{PROVIDER, REQUESTER, RECEIPT-LINK, ACCEPTANCE-DEADLINE, AUTO-ACCEPT, RECEIPT-STATE, CLAIMED-AT, RECEIPT-CLOSED-AT}
 use Rattle.rules.specs.Table.{rowsIn, all, sum}
 use Rattle.rules.specs.Ledger.{Ledger, head, wallet, escrow, receipt, walletCount, escrowCount, receiptCount, entryCount, written}
-use Rattle.rules.specs.Sound.{headerTests, walletTests, escrowTests, linkRight, receiptTests, entryTests, heldIn, credits, soundTests, sound}
-use Rattle.rules.proofs.Bools.{and-intro, all-at}
-use Rattle.rules.proofs.Counts.{every-at, every-intro}
+use Rattle.rules.specs.Sound.{headerTests, walletTests, escrowTests, linkRight, receiptTests, entryTests, heldIn, credits, sound}
+use Rattle.rules.proofs.Bools.{and-intro}
+use Rattle.rules.proofs.Counts.{every-intro}
+use Rattle.rules.proofs.Tests.{sound-says}
 use Rattle.rules.proofs.Accounts.{distinct-test, own}
 use Rattle.rules.proofs.Good.{Good}
 
@@ -29,17 +30,12 @@ pub record GoodHeader (L : Ledger) : Type 0 where
 
 module _ (L : Ledger) (h : sound L ≡ true) where
   pub journal-of : GoodJournal L
-  unfolding sound
-  journal-of = record {
-    within = leb-true _ _ (all-at (headerTests L) (all-at (soundTests L) h 0) 6);
-    rows = every-at (entryCount L) (λ i. all (entryTests L i)) (all-at (soundTests L) h 5);
-  }
+  journal-of = record { within = sound-says L h .header .within .journal; rows = sound-says L h .journal }
 
   pub header-of : GoodHeader L
-  unfolding sound
   header-of =
-      let t = all-at (headerTests L) (all-at (soundTests L) h 0) in
-      record { edition = eqb-true _ _ (t 0); flag = leb-true _ _ (t 1); clock = leb-true _ _ (t 2) }
+      let t = sound-says L h .header in
+      record { edition = t .edition; flag = t .flag; clock = t .clock }
 
 module _ (L : Ledger) (g : Good L) where
   wallet-again : (i : ℕ) → i < walletCount L → all (walletTests L i) ≡ true

@@ -22,13 +22,14 @@ use Rattle.rules.specs.declared.Submission.{Submission}
 use Rattle.rules.specs.declared.Read.{Read}
 use Rattle.rules.proofs.Bools.{cond-case}
 use Rattle.rules.proofs.Rows.{rows-fit}
+use Rattle.rules.proofs.Formed.{Formed}
 use Rattle.rules.proofs.Accounts.{bal, bal-found, bal-put-col, total-put-col}
 use Rattle.rules.proofs.Moves.{up, mv, up-bal, up-total, mv-bal, mv-total}
 use Rattle.rules.proofs.Good.{GoodTables, Good, good-of}
 use Rattle.rules.proofs.GoodRows.{moved-put, moved-then, moved-tables, open-tables, claim-tables}
 use Rattle.rules.proofs.Stays.{kept-end, kept-close, kept-accept, kept-sweep}
 use Rattle.rules.proofs.Ensured.{Ensured, ensured}
-use Rattle.rules.proofs.Calls.{settled, Formed, by-op}
+use Rattle.rules.proofs.Calls.{settled, by-op}
 use Rattle.rules.proofs.Passed.{amount-low, amount-high, sender-row, sender-has, target-some, target-other, escrow-row, escrow-open, link-written}
 use Rattle.rules.proofs.Passed.{written-row, link-from, link-to, receipt-row, grant-within, wallet-place, escrow-place, receipt-place}
 

@@ -18,7 +18,8 @@ use Rattle.rules.specs.Refusals.{releasable}
 use Rattle.rules.specs.Settle.{raise, lower, endEscrow, closeReceipt, Done, done, acceptRow, Sweep, sweepStart, dueReceipt, dueEscrow}
 use Rattle.rules.specs.Settle.{closeDueReceipt, closeDueEscrow, sweepReceipt, sweepEscrow, sweptReceipts, swept}
 use Rattle.rules.proofs.Bools.{and-fst, and-snd, cond-case}
-use Rattle.rules.proofs.Good.{State, Good}
+use Rattle.rules.proofs.Tests.{State}
+use Rattle.rules.proofs.Good.{Good}
 use Rattle.rules.proofs.Ends.{ended-tables, closing-shut, closing-code, closed-tables}
 
 -- K is good, and has the header and the edition of L

@@ -5,7 +5,7 @@ use mathlib.Core.Path.{_≡_, refl, sym, ap, ap₂, _∙_, subst}
 use mathlib.Core.Logic.{_≢_}
 use mathlib.Core.List.{List, [], _∷_}
 use mathlib.Core.Bool.{true, false, _&&_}
-use Prim.Native.Nat.{ℕ, _+_, _-_, _≤_, _<_, min}
+use Prim.Native.Nat.{ℕ, _+_, _-_, _≤_, _<_}
 use native.Mathlib.Decide.{ℕ-discrete}
 use native.Mathlib.Omega.{arith}
 use lib.ListN.{getD, length, take, length-take}
@@ -13,15 +13,14 @@ use lib.Dec.{eqb, ltb, leb, lit<}
 use borrow.Author.Tests.{le-ltb, leb-true}
 use Rattle.rules.specs.Limits.{RECEIPT-LEN, ESCROW-DEADLINE, ESCROW-STATE, ESCROW-CLOSED-AT, ESCROW-CLOSED-BY, IS-OPEN, RELEASED, EXPIRED}
 use Rattle.rules.specs.Limits.{RECEIPT-LINK, ACCEPTANCE-DEADLINE, AUTO-ACCEPT, RECEIPT-STATE, RECEIPT-CLOSED-AT, RECEIPT-CLOSED-BY, RELEASE-CODE}
-use Rattle.rules.specs.Limits.{PENDING, ACCEPTED, LAPSED, RELEASE-IMPOSSIBLE, SWEEP}
+use Rattle.rules.specs.Limits.{PENDING, ACCEPTED, LAPSED, RELEASE-IMPOSSIBLE}
 use Rattle.rules.specs.Table.{loop}
 use Rattle.rules.specs.Ledger.{Edition, Ledger, Outcome, escrow, receipt, receiptCount, escrowCount, putWallet, putEscrow, putReceipt}
 use Rattle.rules.specs.Record.{readOf}
 use Rattle.rules.specs.Refusals.{releasable}
 use Rattle.rules.specs.Settle.{Done, done, Sweep, sweptReceipts, swept, dueReceipt, dueEscrow, raise, lower, endEscrow, closeReceipt, acceptRow}
 use Rattle.rules.specs.Settle.{closeDueReceipt, closeDueEscrow, sweepReceipt, sweepEscrow, sweep, operations, idle, operate, settle}
-use Rattle.rules.specs.Submit.{submit}
-use Rattle.rules.specs.Due.{dueReceipts, dueEscrows, due, closeAll}
+use Rattle.rules.specs.Due.{dueReceipts, dueEscrows, closeAll}
 use Rattle.rules.specs.Promises.{Sweep-counts, Sweep-answers, Sweep-closes}
 use Rattle.rules.specs.declared.Submission.{Submission}
 use Rattle.rules.proofs.Bools.{and-snd, and-none-snd, cond-case}

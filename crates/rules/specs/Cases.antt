@@ -1,8 +1,8 @@
 -- Section "Checked cases": P1 to P12 as one table. A case is a list of submissions on a fresh ledger. Each is written as a record, submitted,
 -- and held against the answer and the word that the paper gives, what wallets then have, and the release codes that receipts then have.
 use mathlib.Core.List.{List, [], _∷_}
-use mathlib.Core.Bool.{Bool, true, _&&_}
-use Prim.Native.Nat.{ℕ, _+_, _-_, _*_}
+use mathlib.Core.Bool.{Bool, true, cond, _&&_}
+use Prim.Native.Nat.{ℕ, _+_, _-_}
 use lib.ListN.{replicate}
 use lib.Dec.{eqb}
 use Rattle.rules.specs.Limits.{MAX-AMOUNT-MICRO, MAX-HOLD-MS, BALANCE, LOCKED, RELEASE-CODE}
@@ -57,9 +57,10 @@ goes (x ∷ xs) L =
     let a = submit L (encode (x .submission)) in
     eqb (a .number) (x .number) && (eqb (a .word) (x .word) && (hasAll (a .left) (x .has) && (codesAll (a .left) (x .codes) && goes xs (a .left))))
 
-abbrev pub allGo : List Case → Bool
-allGo [] = true
-allGo (c ∷ cs) = goes (c .steps) (fresh tables .left) && allGo cs
+-- the labels of the cases that do not go
+abbrev pub failing : List Case → List ℕ
+failing [] = []
+failing (c ∷ cs) = cond (goes (c .steps) (fresh tables .left)) (failing cs) (c .label ∷ failing cs)
 
 -- op flags now signer nonce issued expires target amount until link
 abbrev sub : ℕ → ℕ → ℕ → ℕ → ℕ → ℕ → ℕ → ℕ → ℕ → ℕ → ℕ → Submission

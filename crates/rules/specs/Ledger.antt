@@ -1,7 +1,7 @@
 -- Section "Lent tables": the five tables, their words by name, their lengths, and starting afresh.
 use mathlib.Core.List.{List, [], _∷_}
 use mathlib.Core.Bool.{Bool, cond, _&&_}
-use Prim.Native.Nat.{ℕ, _+_, _-_, _*_, _≤_, _<_, _^_}
+use Prim.Native.Nat.{ℕ, _+_, _-_, _≤_, _<_, _^_}
 use lib.ListN.{getD, set, length, replicate}
 use lib.Dec.{eqb, ltb, leb}
 use Rattle.rules.specs.Limits.{FIRST-EDITION, HEADER-LEN, ESCROW-LEN, WALLET-LEN, RECEIPT-LEN, JOURNAL-LEN, MAX-WALLETS, MAX-ESCROWS, MAX-RECEIPTS, MAX-ENTRIES}

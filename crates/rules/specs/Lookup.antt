@@ -1,5 +1,5 @@
 -- Section "Row lookups": that very row of the caller's table, or an empty part; the search for a wallet.
-use mathlib.Core.List.{List, []}
+use mathlib.Core.List.{List}
 use mathlib.Core.Bool.{Bool, not, cond, _&&_}
 use Prim.Native.Nat.{ℕ, _+_, _-_, _*_}
 use lib.ListN.{getD, length, take, drop}

@@ -1,8 +1,8 @@
 -- Section "Numbered answers, in order of check": one table, a row for each number. Each condition is exact by itself: where it speaks of
 -- a row, it says that the row is there.
 use mathlib.Core.List.{List, [], _∷_, _++_}
-use mathlib.Core.Bool.{Bool, true, false, not, cond, _&&_, _||_}
-use Prim.Native.Nat.{ℕ, zero, suc, _+_, _-_}
+use mathlib.Core.Bool.{Bool, false, not, cond, _&&_, _||_}
+use Prim.Native.Nat.{ℕ, _+_, _-_}
 use lib.Dec.{eqb, ltb, leb}
 use Rattle.rules.specs.Limits.{WALLET-LEN, RECEIPT-LEN, JOURNAL-LEN, MAX-AMOUNT-MICRO, MAX-GRANTED-MICRO, MAX-SWEEP-ROWS}
 use Rattle.rules.specs.Limits.{MAX-SKEW-MS, MAX-ENVELOPE-MS, DAY-MS, MAX-HOLD-MS, MIN-ACCEPTANCE-MS, MAX-ACCEPTANCE-MS}

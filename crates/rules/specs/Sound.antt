@@ -2,7 +2,7 @@
 use mathlib.Core.List.{List, [], _∷_}
 use mathlib.Core.Bool.{Bool, not, cond, _&&_, _||_}
 use Prim.Native.Nat.{ℕ, _+_, _-_}
-use lib.Dec.{eqb, ltb, leb}
+use lib.Dec.{eqb, leb}
 use Rattle.rules.specs.Limits.{WALLET-LEN, RECEIPT-LEN, JOURNAL-LEN, LAST-TIME-MS, MAX-AMOUNT-MICRO, MAX-GRANTED-MICRO, TRANSFER, OPEN}
 use Rattle.rules.specs.Limits.{EDITION, SYSTEM-FROZEN, CLOCK, GRANTED, ID, BALANCE, LOCKED, FROZEN, IS-OPEN}
 use Rattle.rules.specs.Limits.{FROM, TO, ESCROW-AMOUNT, ESCROW-DEADLINE, ESCROW-STATE, OPENED-AT, ESCROW-CLOSED-AT}

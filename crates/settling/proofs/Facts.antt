@@ -2,42 +2,30 @@
 -- and what each refusal that does not hold says of the submission, asked by its number.
 use mathlib.Core.Path.{_≡_, ap, _∙_}
 use mathlib.Core.List.{List, [], _∷_}
-use mathlib.Core.Bool.{true, not}
-use Prim.Native.Nat.{ℕ, _-_, _%_, _≤_}
-use native.Mathlib.Nat.{le-trans}
+use mathlib.Core.Bool.{true}
+use Prim.Native.Nat.{ℕ, _-_, _≤_}
 use native.Mathlib.Omega.{arith}
-use lib.ListN.{length, getD}
-use lib.Dec.{eqb, ltb, leb}
-use borrow.Author.Tests.{ltb-true, leb-true, le-ltb}
-use Rattle.rules.specs.Limits.{WALLET-LEN, RECEIPT-LEN, JOURNAL-LEN, MAX-WALLETS, MAX-ESCROWS, MAX-RECEIPTS, MAX-ENTRIES, ENTRIES}
+use lib.ListN.{getD}
+use borrow.Author.Tests.{le-ltb}
+use Rattle.rules.specs.Limits.{MAX-RECEIPTS, MAX-ENTRIES, ENTRIES}
 use Rattle.rules.specs.Limits.{GRANT, TRANSFER, OPEN, RELEASE, REFUND, ACCEPT, DISPUTE}
-use Rattle.rules.specs.Table.{rowsIn, tableRight}
-use Rattle.rules.specs.Ledger.{Ledger, ledgerOf, walletRow, receiptCount, written, lengthsRight, lengthTests}
-use Rattle.rules.specs.Sound.{sound, headerTests, soundTests}
-use Rattle.rules.specs.Refusals.{refusals, entryRefusals, envelopeRefusals, operationRefusals, oneOf, paying, closing}
+use Rattle.rules.specs.Ledger.{Ledger, ledgerOf, walletRow}
+use Rattle.rules.specs.Refusals.{entryRefusals, oneOf, paying, closing}
 use Rattle.rules.specs.Submit.{answerOf}
 use Rattle.rules.specs.declared.Edition.{Edition}
 use Rattle.rules.specs.declared.Submission.{Submission}
 use Rattle.rules.specs.declared.Read.{Read}
-use Rattle.rules.proofs.Bools.{and-fst, not-false-true, all-at}
-use Rattle.rules.proofs.Refused.{passed, entry-pass}
-use Rattle.rules.proofs.Calls.{Formed, formed-says, for-op, header-length}
-use Rattle.rules.proofs.Passed.{amount-high, sender-row, sender-has, escrow-written, escrow-row, escrow-open, receipt-row, grant-within, wallet-place}
+use Rattle.rules.proofs.Tests.{written-low, header-wide, Few, counts-few, sound-says}
+use Rattle.rules.proofs.Formed.{Formed, formed-says}
+use Rattle.rules.proofs.Refused.{entry-pass}
+use Rattle.rules.proofs.Passed.{amount-high, sender-row, sender-has, escrow-written, escrow-row, escrow-open, receipt-written, receipt-row}
+use Rattle.rules.proofs.Passed.{grant-within, wallet-place}
 use Rattle.rules.proofs.Good.{Good, good-of, balance-most, locked-most}
 use Rattle.moves.specs.Needs.{Small, Counted, Ends, Accepts}
 use Rattle.moves.proofs.Bounds.{counted-of, ends-of, accepts-of}
 use Rattle.operations.specs.Needs.{Receiving, Granting, Paying, Opening, Claiming}
 use Rattle.sweeping.specs.Needs.{Sweeping}
 use Rattle.settling.specs.Needs.{Settles}
-
--- a count within a table of right length
-count-small : (len most n : ℕ) (t : List ℕ) → tableRight len most t ≡ true → n ≤ rowsIn len t → n ≤ most
-count-small len most n t right within =
-    le-trans within (leb-true _ _ (all-at (leb len (length t) ∷ eqb (length t % len) 0 ∷ leb (rowsIn len t) most ∷ []) right 2))
-
--- a number that names a written row is not 0
-written-some : (n k : ℕ) → written n k ≡ true → 1 ≤ k
-written-some n k x = ltb-true 0 k (and-fst (ltb 0 k) (leb k n) x)
 
 module _ (ed : Edition) (h w e r j : List ℕ) (s : Submission) (p : Settles (ledgerOf ed h w e r j) s) where
   abbrev L : Ledger
@@ -53,23 +41,19 @@ module _ (ed : Edition) (h w e r j : List ℕ) (s : Submission) (p : Settles (le
   pub good : Good L
   good = good-of L (p .sized .escrow) (p .is-sound)
 
-  length-test : (k : ℕ) → getD (lengthTests L) k true ≡ true
-  unfolding lengthsRight
-  length-test k = all-at (lengthTests L) (p .lengths) k
+  few : Few L
+  few = counts-few L (p .lengths) (sound-says L (p .is-sound) .header .within)
 
   pub small : Small h
   small = record {
-    whole = omega (arith, header-length L (p .lengths), p .sized .header);
-    wallets = count-small WALLET-LEN MAX-WALLETS _ w (length-test 1) (good .wallets-in);
-    escrows = count-small _ MAX-ESCROWS _ e (length-test 2) (good .escrows-in);
-    receipts = count-small RECEIPT-LEN MAX-RECEIPTS _ r (length-test 3) (good .receipts-in);
+    whole = header-wide L (p .lengths) (p .sized .header);
+    wallets = few .wallets;
+    escrows = few .escrows;
+    receipts = few .receipts;
   }
 
   pub entries-small : getD h ENTRIES 0 ≤ MAX-ENTRIES
-  unfolding sound
-  entries-small =
-      count-small JOURNAL-LEN MAX-ENTRIES (getD h ENTRIES 0) j (length-test 4)
-      (leb-true _ _ (all-at (headerTests L) (all-at (soundTests L) (p .is-sound) 0) 6))
+  entries-small = few .journal
 
   pub formed : Formed s
   formed = formed-says s (p .formed)
@@ -105,7 +89,7 @@ module _ (ed : Edition) (h w e r j : List ℕ) (s : Submission) (p : Settles (le
 
   -- 4 and 5
   ending : oneOf closing (s .op) ≡ true → (1 ≤ s .target) × Ends ed h w e (s .target - 1)
-  ending t = (written-some _ _ (escrow-written L read answered t), ends-of ed (p .sized .small) h w e r small good (s .target - 1) (escrow-row L read answered t) (escrow-open L read answered t))
+  ending t = (written-low _ _ (escrow-written L read answered t), ends-of ed (p .sized .small) h w e r small good (s .target - 1) (escrow-row L read answered t) (escrow-open L read answered t))
 
   pub releasing : s .op ≡ RELEASE → (1 ≤ s .target) × Ends ed h w e (s .target - 1)
   releasing o = ending (ap (oneOf closing) o)
@@ -118,17 +102,12 @@ module _ (ed : Edition) (h w e r j : List ℕ) (s : Submission) (p : Settles (le
   claiming = record { whole = small .whole; receipts = small .receipts }
 
   -- 7 and 8
-  receipt-written : oneOf (ACCEPT ∷ DISPUTE ∷ []) (s .op) ≡ true → written (receiptCount L) (s .target) ≡ true
-  unfolding refusals entryRefusals envelopeRefusals operationRefusals
-  receipt-written t =
-      not-false-true _ (for-op s (ACCEPT ∷ DISPUTE ∷ []) (not (written (receiptCount L) (s .target))) t (passed L read answered 32))
-
   pub accepting : s .op ≡ ACCEPT → (1 ≤ s .target) × Accepts ed h w e r (s .now) (s .target - 1)
-  accepting o = (written-some _ _ (receipt-written (ap (oneOf (ACCEPT ∷ DISPUTE ∷ [])) o)), accepts-of ed (p .sized .small) h w e r small good (s .now) (s .target - 1) (receipt-row L read answered (ap (oneOf (ACCEPT ∷ DISPUTE ∷ [])) o)))
+  accepting o = (written-low _ _ (receipt-written L read answered (ap (oneOf (ACCEPT ∷ DISPUTE ∷ [])) o)), accepts-of ed (p .sized .small) h w e r small good (s .now) (s .target - 1) (receipt-row L read answered (ap (oneOf (ACCEPT ∷ DISPUTE ∷ [])) o)))
 
   pub disputing : s .op ≡ DISPUTE → (1 ≤ s .target) × (s .target ≤ MAX-RECEIPTS)
   disputing o = (
-    written-some _ _ (receipt-written (ap (oneOf (ACCEPT ∷ DISPUTE ∷ [])) o)),
+    written-low _ _ (receipt-written L read answered (ap (oneOf (ACCEPT ∷ DISPUTE ∷ [])) o)),
     omega (arith, small .receipts, receipt-row L read answered (ap (oneOf (ACCEPT ∷ DISPUTE ∷ [])) o)),
   )
 

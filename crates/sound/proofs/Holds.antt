@@ -6,19 +6,19 @@ use Prim.Native.Nat.{ℕ, _+_, _*_, _≤_, _<_}
 use native.Mathlib.Omega.{arith}
 use native.Mathlib.Nat.{le-refl}
 use native.Mathlib.Decide.{ℕ-discrete}
-use lib.Dec.{eqb, ltb, leb}
+use lib.Dec.{eqb, ltb}
 use lib.ListN.{getD, set, length-set, drop}
 use lib.Seq.{getD-set-same, getD-set-other}
-use borrow.Author.Tests.{eq-eqb, ne-eqb, eqb-true, ltb-true, leb-true}
+use borrow.Author.Tests.{eq-eqb, ne-eqb, ltb-true}
 use Rattle.rules.specs.Limits.{WALLET-LEN, MAX-WALLETS, MAX-ESCROWS, MAX-AMOUNT-MICRO, ID, FROM, TO, ESCROW-AMOUNT, ESCROW-STATE, IS-OPEN}
 use Rattle.rules.specs.Table.{word, all, every, distinct, sum}
 use Rattle.rules.specs.Ledger.{rowOf}
 use Rattle.rules.specs.Sound.{escrowTests, heldIn}
-use Rattle.rules.proofs.Bools.{and-intro, and-snd, and-none-snd, all-at}
+use Rattle.rules.proofs.Bools.{and-intro, and-none-snd}
 use Rattle.rules.proofs.Counts.{every-at, sum-step, sum-most}
-use Rattle.rules.proofs.Seek.{seek-hit}
+use Rattle.rules.proofs.Tests.{escrow-says}
+use Rattle.rules.proofs.Accounts.{row-hit, first-row}
 use Rattle.index.specs.Index.{numberOf, senderOf}
-use Rattle.index.proofs.Laws.{first-row}
 use Rattle.sound.specs.Parts.{parties, heldOf, Held}
 
 -- an escrow's two wallets are written, and the sender has this number
@@ -46,13 +46,9 @@ not-sent w n from to number b e z = go (ltb (rowOf w n to) n) refl (ltb (rowOf w
     go true p false q = rw q
     go false p c q = and-none-snd (ltb (rowOf w n from) n) (ltb (rowOf w n to) n && b) (rw p)
 
--- the sender's row is its number less one, and has its id
+-- the sender's row is written
 pub sent-row : (w : List ℕ) (n from to number : ℕ) → Sent w n from to number → rowOf w n from < n
 sent-row w n from to number s = ltb-true (rowOf w n from) n (s .sender)
-
-pub row-has : (w : List ℕ) (n x : ℕ) → rowOf w n x < n → word w WALLET-LEN (rowOf w n x) ID ≡ x
-unfolding rowOf
-row-has w n x h = eqb-true _ x (seek-hit n (λ i. eqb (word w WALLET-LEN i ID) x) h)
 
 module _ (len : ℕ) (w : List ℕ) (n : ℕ) (e : List ℕ) (m : ℕ) where
   -- the tests of escrow k
@@ -73,10 +69,7 @@ module _ (len : ℕ) (w : List ℕ) (n : ℕ) (e : List ℕ) (m : ℕ) where
 
   -- an amount that is right is within its limit
   pub amount-most : (k : ℕ) → right k ≡ true → word e len k ESCROW-AMOUNT ≤ MAX-AMOUNT-MICRO
-  amount-most k x =
-      leb-true _ _
-      (and-snd (leb 1 (word e len k ESCROW-AMOUNT)) (leb (word e len k ESCROW-AMOUNT) MAX-AMOUNT-MICRO)
-      (all-at (escrowTests (parties len w n e m) k) x 3))
+  amount-most k x = escrow-says (parties len w n e m) k x .own .high
 
 -- what escrow k holds of an id, where that is the sender's and where it is another's
 module _ (len : ℕ) (w e : List ℕ) (x k : ℕ) where
@@ -140,7 +133,7 @@ held-more len w n e k to number h sums a d few s x =
     go : (i : ℕ) → i < n → Dec (i ≡ row) → getD (set sums number (getD sums number 0 + h)) (i + 1) 0 ≡ heldOf len w e (k + 1) i
     go i l (yes p) =
         let q : i + 1 ≡ number = omega (arith, s .numbered) in
-        let own : from ≡ word w WALLET-LEN i ID = sym (ap (λ j. word w WALLET-LEN j ID) p ∙ row-has w n from row<) in
+        let own : from ≡ word w WALLET-LEN i ID = sym (ap (λ j. word w WALLET-LEN j ID) p ∙ row-hit w n from row<) in
         ap (λ j. getD (set sums number (getD sums number 0 + h)) j 0) q
         ∙ getD-set-same sums number (getD sums number 0 + h) 0 (omega (arith, a .room))
         ∙ omega (

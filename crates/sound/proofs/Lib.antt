@@ -1,5 +1,4 @@
 -- Laws of the passes.
-pub mod Loops
 pub mod Totals
 pub mod Links
 pub mod Holds

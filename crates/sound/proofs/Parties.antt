@@ -11,9 +11,9 @@ use Rattle.rules.specs.Limits.{WALLET-LEN, ID, LOCKED}
 use Rattle.rules.specs.Table.{word, all, every, distinct}
 use Rattle.rules.specs.Sound.{escrowTests}
 use Rattle.rules.proofs.Rows.{zeros}
-use Rattle.rules.proofs.Counts.{sum-none}
+use Rattle.rules.proofs.Counts.{sum-none, every-ext, distinct-ext}
 use Rattle.index.specs.Index.{NUMBERS, idAt, Copied, Filled, Indexed}
-use Rattle.index.proofs.Laws.{every-ext, distinct-ext, indexed-apart}
+use Rattle.index.proofs.Laws.{indexed-apart}
 use Rattle.sound.specs.Parts.{parties, Tables, heldOf, Held, HeldAll, lockedIs, partiesRight}
 
 -- no escrow yet

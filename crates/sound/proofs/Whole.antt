@@ -4,13 +4,12 @@ use mathlib.Core.Bool.{Bool, true, false, not, _&&_, and-false, and-true}
 use mathlib.Core.List.{List}
 use Prim.Native.Nat.{ℕ}
 use lib.Dec.{eqb, leb}
-use lib.ListN.{getD}
 use borrow.Author.Tests.{not-true, not-false}
-use Rattle.rules.specs.Limits.{GRANTED, MAX-GRANTED-MICRO}
-use Rattle.rules.specs.Table.{all, every}
-use Rattle.rules.specs.Ledger.{ledgerOf, head, walletCount, escrowCount, receiptCount, entryCount}
+use Rattle.rules.specs.Limits.{GRANTED, MAX-GRANTED-MICRO, ID, LOCKED}
+use Rattle.rules.specs.Table.{all, every, distinct, sum}
+use Rattle.rules.specs.Ledger.{ledgerOf, head, wallet, walletCount, escrowCount, receiptCount, entryCount}
 use Rattle.rules.specs.declared.Edition.{Edition}
-use Rattle.rules.specs.Sound.{headerTests, walletTests, receiptTests, entryTests, heldIn, credits, soundTests, sound}
+use Rattle.rules.specs.Sound.{headerTests, walletTests, escrowTests, receiptTests, entryTests, heldIn, credits, sound}
 use Rattle.rules.proofs.Bools.{and-none-fst, and-none-snd}
 use Rattle.sound.specs.Parts.{walletsIn, receiptsIn, entriesIn, partiesRight}
 
@@ -58,6 +57,18 @@ module _ (ed : Edition) (h w e r j : List ℕ) where
   abbrev P : Bool
   P = partiesRight (ed .escrow) w (walletCount (ledgerOf ed h w e r j)) e (escrowCount (ledgerOf ed h w e r j))
 
+  -- its three tests
+  abbrev D : Bool
+  D = distinct (walletCount (ledgerOf ed h w e r j)) (λ i. wallet (ledgerOf ed h w e r j) i ID)
+
+  abbrev E : Bool
+  E = every (escrowCount (ledgerOf ed h w e r j)) (λ i. all (escrowTests (ledgerOf ed h w e r j) i))
+
+  abbrev K : Bool
+  K =
+      every (walletCount (ledgerOf ed h w e r j))
+      (λ i. eqb (wallet (ledgerOf ed h w e r j) i LOCKED) (sum (escrowCount (ledgerOf ed h w e r j)) (heldIn (ledgerOf ed h w e r j) (wallet (ledgerOf ed h w e r j) i ID))))
+
   abbrev R : Bool
   R = every (receiptCount (ledgerOf ed h w e r j)) (λ i. all (receiptTests (receiptsIn (ed .escrow) e (escrowCount (ledgerOf ed h w e r j)) r) i))
 
@@ -67,10 +78,7 @@ module _ (ed : Edition) (h w e r j : List ℕ) where
   module _ (y : all (headerTests (ledgerOf ed h w e r j)) ≡ true) where
     whole : W && (T && (P && (R && J))) ≡ sound (ledgerOf ed h w e r j)
     unfolding sound credits heldIn partiesRight
-    whole = rw y (reorder (test 1) (test 7 && test 8) (test 2) (test 3) (test 6) (test 4) (test 5))
-      where
-        test : ℕ → Bool
-        test k = getD (soundTests (ledgerOf ed h w e r j)) k true
+    whole = rw y (reorder W T D E K R J)
 
     pub no-wallets : (b : Bool) → b ≡ W → not b ≡ true → false ≡ sound (ledgerOf ed h w e r j)
     no-wallets b x z = fail-1 W T P R J _ whole (sym x ∙ not-true b z)

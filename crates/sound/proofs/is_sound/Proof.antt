@@ -8,7 +8,7 @@ use Rattle.rules.specs.Moments.{tables}
 use Rattle.rules.specs.Sound.{headerTests}
 use Rattle.rules.specs.Table.{all}
 use Rattle.sound.specs.Parts.{Tables}
-use Rattle.sound.proofs.Counted.{header-length, escrow-row, rows-within, receipt-rows, entry-rows}
+use Rattle.sound.proofs.Counted.{header-there, escrow-row, rows-within, receipt-rows, entry-rows}
 use Rattle.sound.proofs.Whole.{no-header, no-wallets, no-total, no-parties, no-receipts, the-entries}
 use Rattle.sound.proofs.is_sound.Statement.{statement}
 use Rattle.sound.proofs.is_sound.Tie as tie
@@ -27,16 +27,16 @@ within : (c : tie.Else1)
 within c = rows-within _ _ _ _ _ _ (c .before .before .before .before .before .before .before .pre) (right c)
 
 header-right-requires : tie.Need-header-right-requires
-header-right-requires c κs = (header-length _ _ _ _ _ _ (c .before .before .before .before .before .pre), c .before .before .before .before .before .pre .1 .escrow)
+header-right-requires c κs = (header-there _ _ _ _ _ _ (c .before .before .before .before .before .pre), c .before .before .before .before .before .pre .1 .escrow)
 
 returns : tie.Need-returns
 returns c = no-header _ _ _ _ _ _ _ (c .before .header-right .ensures) (c .if1 .taken)
 
 shared-slice-read-n : tie.Need-shared-slice-read-n
-shared-slice-read-n c = omega (arith, header-length _ _ _ _ _ _ (c .before .before .before .before .before .before .before .before .pre))
+shared-slice-read-n c = omega (arith, header-there _ _ _ _ _ _ (c .before .before .before .before .before .before .before .before .pre))
 
 shared-slice-read-m : tie.Need-shared-slice-read-m
-shared-slice-read-m c = omega (arith, header-length _ _ _ _ _ _ (c .before .before .before .before .before .before .before .before .before .pre))
+shared-slice-read-m c = omega (arith, header-there _ _ _ _ _ _ (c .before .before .before .before .before .before .before .before .before .pre))
 
 wallets-right-requires : tie.Need-wallets-right-requires
 wallets-right-requires c κs = within (c .before .before) .wallets
@@ -45,7 +45,7 @@ returns-2 : tie.Need-returns-2
 returns-2 c = no-wallets _ _ _ _ _ _ (right (c .before .before .before .before)) _ (c .before .wallets-right .ensures) (c .if2 .taken)
 
 shared-slice-read-total-right : tie.Need-shared-slice-read-total-right
-shared-slice-read-total-right c = omega (arith, header-length _ _ _ _ _ _ (c .before .before .before .before .before .before .before .before .before .before .before .before .pre))
+shared-slice-read-total-right c = omega (arith, header-there _ _ _ _ _ _ (c .before .before .before .before .before .before .before .before .before .before .before .before .pre))
 
 total-right-requires : tie.Need-total-right-requires
 total-right-requires c κs = within (c .before .before .before .before .before) .wallets
@@ -60,7 +60,7 @@ returns-4 : tie.Need-returns-4
 returns-4 c = no-parties _ _ _ _ _ _ (right (c .before .before .before .before .before .before .before .before .before)) _ (c .before .parties-right .ensures) (c .if4 .taken)
 
 shared-slice-read-receipts-right : tie.Need-shared-slice-read-receipts-right
-shared-slice-read-receipts-right c = omega (arith, header-length _ _ _ _ _ _ (c .before .before .before .before .before .before .before .before .before .before .before .before .before .before .before .before .before .pre))
+shared-slice-read-receipts-right c = omega (arith, header-there _ _ _ _ _ _ (c .before .before .before .before .before .before .before .before .before .before .before .before .before .before .before .before .before .pre))
 
 receipts-right-requires : tie.Need-receipts-right-requires
 receipts-right-requires c κs =
@@ -70,7 +70,7 @@ returns-5 : tie.Need-returns-5
 returns-5 c = no-receipts _ _ _ _ _ _ (right (c .before .before .before .before .before .before .before .before .before .before .before .before)) _ (c .before .receipts-right .ensures) (c .if5 .taken)
 
 shared-slice-read-entries-right : tie.Need-shared-slice-read-entries-right
-shared-slice-read-entries-right c = omega (arith, header-length _ _ _ _ _ _ (c .before .before .before .before .before .before .before .before .before .before .before .before .before .before .before .before .before .before .before .before .pre))
+shared-slice-read-entries-right c = omega (arith, header-there _ _ _ _ _ _ (c .before .before .before .before .before .before .before .before .before .before .before .before .before .before .before .before .before .before .before .before .pre))
 
 entries-right-requires : tie.Need-entries-right-requires
 entries-right-requires c κs = entry-rows _ _ _ _ _ _ (c .before .before .before .before .before .before .before .before .before .before .before .before .before .before .before .before .before .before .before .before .pre) (right (c .before .before .before .before .before .before .before .before .before .before .before .before .before))

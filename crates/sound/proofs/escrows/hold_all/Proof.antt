@@ -3,16 +3,15 @@ use Prim.Native.Nat.{_+_, _-_, _*_, _≤_}
 use native.Mathlib.Omega.{arith}
 use lib.ListN.{length}
 use mathlib.Core.Path.{_≡_}
-use mathlib.Core.Bool.{true, false, false≢true}
+use mathlib.Core.Bool.{true, false≢true}
 use borrow.Author.Tests.{not-true, not-false}
 use Rattle.rules.specs.Limits.{ESCROW-LEN, MAX-WALLETS, FROM, TO}
 use Rattle.rules.specs.Table.{word, all, every}
 use Rattle.rules.specs.Sound.{escrowTests}
-use Rattle.rules.proofs.Counts.{every-none}
+use Rattle.rules.proofs.Counts.{every-none, every-on, every-fails, every-passed}
 use Rattle.rules.proofs.Rows.{row-end}
 use Rattle.index.proofs.Laws.{indexed-apart}
 use Rattle.sound.specs.Parts.{parties, Held}
-use Rattle.sound.proofs.Loops.{pass-on, fails, passes}
 use Rattle.sound.proofs.Holds.{Sent, sent, not-sent, sent-row, row-wrong, row-right, sums-fit, held-end, held-more}
 use borrow.Author.Needs.{needs}
 use Rattle.sound.proofs.escrows.hold_all.Statement.{statement}
@@ -43,7 +42,7 @@ returns c =
     let a = c .before .before .before .before .before .before .args in
     record {
       right =
-          fails _ (c .before .before .before .loop .k) _ (search needs)
+          every-fails _ (c .before .before .before .loop .k) _ (search needs)
           (row-wrong (a .len) (a .w .now) (a .n) (a .e .now) (a .m) _ _ (c .before .escrow-right .ensures) (not-true _ (c .if1 .taken)));
       held = λ z. absurd (false≢true z);
     }
@@ -78,7 +77,7 @@ sender-requires c κs = search needs
 returns-2 : tie.Need-returns-2 Inv-loop μ-loop
 returns-2 c =
     record {
-      right = fails _ (c .before .before .before .before .before .before .before .loop .k) _ (search needs) (not-sent _ _ _ _ _ _ (c .before .sender .ensures) (c .if2 .taken));
+      right = every-fails _ (c .before .before .before .before .before .before .before .loop .k) _ (search needs) (not-sent _ _ _ _ _ _ (c .before .sender .ensures) (c .if2 .taken));
       held = λ z. absurd (false≢true z);
     }
 
@@ -129,7 +128,7 @@ loop-again c =
     let l = c .before .before .before .before .before .before .before .before .before .loop in
     let p = c .before .before .before .before .before .before .before .before .before .before .before .before .pre in (
       search needs,
-      pass-on _ _ (l .inv .1) (is-right d),
+      every-on _ _ (l .inv .1) (is-right d),
       held-more _ _ _ _ _ _ _ _ _ (l .inv .2) (indexed-apart _ _ _ _ (p .1)) (p .0 .few) (was-sent d) (c .held-in .ensures),
     )
 
@@ -137,7 +136,7 @@ returns-3 : tie.Need-returns-3 Inv-loop μ-loop
 returns-3 c =
     let l = c .before .loop in
     record {
-      right = passes _ _ _ (l .inv .0) (c .loop-test .left) (l .inv .1);
+      right = every-passed _ _ _ (l .inv .0) (c .loop-test .left) (l .inv .1);
       held = λ _. held-end _ _ _ _ _ (l .k) _ (l .inv .0) (c .loop-test .left) (l .inv .2);
     }
 

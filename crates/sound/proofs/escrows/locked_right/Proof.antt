@@ -4,9 +4,8 @@ use mathlib.Core.Path.{_≡_}
 use mathlib.Core.Bool.{true}
 use borrow.Author.Tests.{eq-eqb, ne-eqb}
 use Rattle.rules.specs.Table.{every}
-use Rattle.rules.proofs.Counts.{every-none}
+use Rattle.rules.proofs.Counts.{every-none, every-on, every-fails, every-passed}
 use Rattle.sound.specs.Parts.{lockedIs}
-use Rattle.sound.proofs.Loops.{pass-on, fails, passes}
 use borrow.Author.Needs.{needs}
 use Rattle.sound.proofs.escrows.locked_right.Statement.{statement}
 use Rattle.sound.proofs.escrows.locked_right.Tie as tie
@@ -42,7 +41,7 @@ element-copy-out-if1 : tie.Need-element-copy-out-if1 Inv-loop μ-loop
 element-copy-out-if1 c = search needs
 
 returns : tie.Need-returns Inv-loop μ-loop
-returns c = fails _ _ _ (search needs) (ne-eqb _ _ (c .if1 .taken))
+returns c = every-fails _ _ _ (search needs) (ne-eqb _ _ (c .if1 .taken))
 
 add-i : tie.Need-add-i Inv-loop μ-loop
 add-i c = search needs
@@ -51,10 +50,10 @@ loop-less : tie.Need-loop-less Inv-loop μ-loop
 loop-less c = search needs
 
 loop-again : tie.Need-loop-again Inv-loop μ-loop
-loop-again c = (search needs, pass-on _ _ (c .before .before .before .before .loop .inv .1) (eq-eqb _ _ (c .if1 .left)))
+loop-again c = (search needs, every-on _ _ (c .before .before .before .before .loop .inv .1) (eq-eqb _ _ (c .if1 .left)))
 
 returns-2 : tie.Need-returns-2 Inv-loop μ-loop
-returns-2 c = passes _ _ _ (c .before .loop .inv .0) (c .loop-test .left) (c .before .loop .inv .1)
+returns-2 c = every-passed _ _ _ (c .before .loop .inv .0) (c .loop-test .left) (c .before .loop .inv .1)
 
 pub locked-right-spec : {M : Type 1} → statement M
 locked-right-spec =
