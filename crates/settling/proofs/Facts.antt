@@ -3,7 +3,7 @@
 use mathlib.Core.Path.{_≡_, ap, _∙_}
 use mathlib.Core.List.{List, [], _∷_}
 use mathlib.Core.Bool.{true, not}
-use Prim.Native.Nat.{ℕ, _-_, _%_, _≤_}
+use Prim.Native.Nat.{ℕ, _-_, _%_, _≤_, _^_}
 use native.Mathlib.Nat.{le-trans}
 use native.Mathlib.Omega.{arith}
 use lib.ListN.{length, getD}
@@ -19,11 +19,12 @@ use Rattle.rules.specs.Submit.{answerOf}
 use Rattle.rules.specs.declared.Edition.{Edition}
 use Rattle.rules.specs.declared.Submission.{Submission}
 use Rattle.rules.specs.declared.Read.{Read}
-use Rattle.rules.proofs.Bools.{and-fst, not-false-true, all-at}
+use Rattle.rules.proofs.Bools.{and-fst, and-snd, not-false-true, all-at}
 use Rattle.rules.proofs.Refused.{passed, entry-pass}
 use Rattle.rules.proofs.Calls.{Formed, formed-says, for-op, header-length}
 use Rattle.rules.proofs.Passed.{amount-high, sender-row, sender-has, escrow-written, escrow-row, escrow-open, receipt-row, grant-within, wallet-place}
 use Rattle.rules.proofs.Good.{Good, good-of, balance-most, locked-most}
+use Rattle.rows.specs.Numbered.{Names}
 use Rattle.moves.specs.Needs.{Small, Counted, Ends, Accepts}
 use Rattle.moves.proofs.Bounds.{counted-of, ends-of, accepts-of}
 use Rattle.operations.specs.Needs.{Receiving, Granting, Paying, Opening, Claiming}
@@ -35,9 +36,12 @@ count-small : (len most n : ℕ) (t : List ℕ) → tableRight len most t ≡ tr
 count-small len most n t right within =
     le-trans within (leb-true _ _ (all-at (leb len (length t) ∷ eqb (length t % len) 0 ∷ leb (rowsIn len t) most ∷ []) right 2))
 
--- a number that names a written row is not 0
-written-some : (n k : ℕ) → written n k ≡ true → 1 ≤ k
-written-some n k x = ltb-true 0 k (and-fst (ltb 0 k) (leb k n) x)
+-- a number of a written row names it, where the count is small
+written-named : (n k : ℕ) → written n k ≡ true → n ≤ 2 ^ 32 → Names k
+written-named n k x small = record {
+  low = ltb-true 0 k (and-fst (ltb 0 k) (leb k n) x);
+  high = le-trans (leb-true k n (and-snd (ltb 0 k) (leb k n) x)) small;
+}
 
 module _ (ed : Edition) (h w e r j : List ℕ) (s : Submission) (p : Settles (ledgerOf ed h w e r j) s) where
   abbrev L : Ledger
@@ -104,13 +108,16 @@ module _ (ed : Edition) (h w e r j : List ℕ) (s : Submission) (p : Settles (le
   }
 
   -- 4 and 5
-  ending : oneOf closing (s .op) ≡ true → (1 ≤ s .target) × Ends ed h w e (s .target - 1)
-  ending t = (written-some _ _ (escrow-written L read answered t), ends-of ed (p .sized .small) h w e r small good (s .target - 1) (escrow-row L read answered t) (escrow-open L read answered t))
+  ending : oneOf closing (s .op) ≡ true → Names (s .target) × Ends ed h w e (s .target - 1)
+  ending t = (
+    written-named _ _ (escrow-written L read answered t) (omega (arith, small .escrows)),
+    ends-of ed (p .sized .small) h w e r small good (s .target - 1) (escrow-row L read answered t) (escrow-open L read answered t),
+  )
 
-  pub releasing : s .op ≡ RELEASE → (1 ≤ s .target) × Ends ed h w e (s .target - 1)
+  pub releasing : s .op ≡ RELEASE → Names (s .target) × Ends ed h w e (s .target - 1)
   releasing o = ending (ap (oneOf closing) o)
 
-  pub refunding : s .op ≡ REFUND → (1 ≤ s .target) × Ends ed h w e (s .target - 1)
+  pub refunding : s .op ≡ REFUND → Names (s .target) × Ends ed h w e (s .target - 1)
   refunding o = ending (ap (oneOf closing) o)
 
   -- 6
@@ -123,14 +130,16 @@ module _ (ed : Edition) (h w e r j : List ℕ) (s : Submission) (p : Settles (le
   receipt-written t =
       not-false-true _ (for-op s (ACCEPT ∷ DISPUTE ∷ []) (not (written (receiptCount L) (s .target))) t (passed L read answered 32))
 
-  pub accepting : s .op ≡ ACCEPT → (1 ≤ s .target) × Accepts ed h w e r (s .now) (s .target - 1)
-  accepting o = (written-some _ _ (receipt-written (ap (oneOf (ACCEPT ∷ DISPUTE ∷ [])) o)), accepts-of ed (p .sized .small) h w e r small good (s .now) (s .target - 1) (receipt-row L read answered (ap (oneOf (ACCEPT ∷ DISPUTE ∷ [])) o)))
+  receipt-named : oneOf (ACCEPT ∷ DISPUTE ∷ []) (s .op) ≡ true → Names (s .target)
+  receipt-named t = written-named _ _ (receipt-written t) (omega (arith, small .receipts))
 
-  pub disputing : s .op ≡ DISPUTE → (1 ≤ s .target) × (s .target ≤ MAX-RECEIPTS)
-  disputing o = (
-    written-some _ _ (receipt-written (ap (oneOf (ACCEPT ∷ DISPUTE ∷ [])) o)),
-    omega (arith, small .receipts, receipt-row L read answered (ap (oneOf (ACCEPT ∷ DISPUTE ∷ [])) o)),
-  )
+  pub accepting : s .op ≡ ACCEPT → Names (s .target) × Accepts ed h w e r (s .now) (s .target - 1)
+  accepting o =
+      let t = ap (oneOf (ACCEPT ∷ DISPUTE ∷ [])) o in
+      (receipt-named t, accepts-of ed (p .sized .small) h w e r small good (s .now) (s .target - 1) (receipt-row L read answered t))
+
+  pub disputing : s .op ≡ DISPUTE → Names (s .target)
+  disputing o = receipt-named (ap (oneOf (ACCEPT ∷ DISPUTE ∷ [])) o)
 
   -- 9
   pub swept : Sweeping ed h w e r (s .now)
