@@ -17,8 +17,6 @@ use rules::limits::LOCKED;
 use rules::limits::PENDING;
 use rules::limits::RECEIPT_LEN;
 use rules::limits::RECEIPTS;
-use rules::limits::REFUNDED;
-use rules::limits::RELEASED;
 use rules::limits::SYSTEM_FROZEN;
 use rules::limits::TX_CAP;
 use rules::limits::WALLETS;
@@ -28,7 +26,7 @@ ghost use Rattle.rules.specs.Limits.{AUTO-OR-FREEZE};
 ghost use Rattle.rules.specs.Ledger.{Ledger};
 ghost use Rattle.rules.specs.Moments.{any, _of-edition_, _with-header_, _with-wallets_, _with-escrows_, _with-receipts_};
 ghost use Rattle.rules.specs.Record.{bit};
-ghost use Rattle.rules.specs.Settle.{done, grant, transfer, openEscrow, release, refund, claim, accept, dispute, freeze, caps};
+ghost use Rattle.rules.specs.Settle.{done, grant, transfer, openEscrow, endEscrow, claim, accept, dispute, freeze, caps};
 ghost use Rattle.rows.specs.Numbered.{Names};
 ghost use Rattle.moves.specs.Needs.{Counted, Ends, Accepts};
 ghost use Rattle.operations.specs.Needs.{Granting, Paying, Opening, Claiming};
@@ -79,16 +77,17 @@ pub fn open_escrow(
     )
 }
 
-// Release pays the recipient.
-pub fn release(
+// Release and refund end the escrow that the target names, in the state that is given: release pays the recipient, refund the sender.
+pub fn close_escrow(
     edition: Edition,
     header: &[u64],
     wallets: &mut [u64],
     escrows: &mut [u64],
     s: Submission,
+    state: u64,
 ) -> u64
     requires { ⌜ Names (s .target) × Ends edition (now header) (now wallets) (now escrows) (s .target - 1) ⌝ }
-    ensures { λ x. ⌜ ((K : Ledger) → let L = any K of-edition edition with-header header with-wallets wallets with-escrows escrows in done x (L .exit) ≡ release s (L .entry)) ⌝ }
+    ensures { λ x. ⌜ ((K : Ledger) → let L = any K of-edition edition with-header header with-wallets wallets with-escrows escrows in done x (L .exit) ≡ done 0 (endEscrow state (s .now) (s .signer) (s .target - 1) (L .entry))) ⌝ }
 {
     let number = EscrowNumber(s.target);
     moves::end_escrow(
@@ -97,32 +96,7 @@ pub fn release(
         wallets,
         escrows,
         number,
-        RELEASED,
-        s.now,
-        s.signer,
-    );
-    0
-}
-
-// Refund returns it to the sender.
-pub fn refund(
-    edition: Edition,
-    header: &[u64],
-    wallets: &mut [u64],
-    escrows: &mut [u64],
-    s: Submission,
-) -> u64
-    requires { ⌜ Names (s .target) × Ends edition (now header) (now wallets) (now escrows) (s .target - 1) ⌝ }
-    ensures { λ x. ⌜ ((K : Ledger) → let L = any K of-edition edition with-header header with-wallets wallets with-escrows escrows in done x (L .exit) ≡ refund s (L .entry)) ⌝ }
-{
-    let number = EscrowNumber(s.target);
-    moves::end_escrow(
-        edition,
-        header,
-        wallets,
-        escrows,
-        number,
-        REFUNDED,
+        state,
         s.now,
         s.signer,
     );

@@ -10,7 +10,7 @@ use lib.ListN.{length, getD}
 use lib.Dec.{eqb, ltb, leb}
 use borrow.Author.Tests.{ltb-true, leb-true, le-ltb}
 use Rattle.rules.specs.Limits.{WALLET-LEN, RECEIPT-LEN, JOURNAL-LEN, MAX-WALLETS, MAX-ESCROWS, MAX-RECEIPTS, MAX-ENTRIES, ENTRIES}
-use Rattle.rules.specs.Limits.{GRANT, TRANSFER, OPEN, RELEASE, REFUND, ACCEPT, DISPUTE}
+use Rattle.rules.specs.Limits.{GRANT, TRANSFER, OPEN, ACCEPT, DISPUTE}
 use Rattle.rules.specs.Table.{rowsIn, tableRight}
 use Rattle.rules.specs.Ledger.{Ledger, ledgerOf, walletRow, receiptCount, written, lengthsRight, lengthTests}
 use Rattle.rules.specs.Sound.{sound, headerTests, soundTests}
@@ -108,17 +108,11 @@ module _ (ed : Edition) (h w e r j : List ℕ) (s : Submission) (p : Settles (le
   }
 
   -- 4 and 5
-  ending : oneOf closing (s .op) ≡ true → Names (s .target) × Ends ed h w e (s .target - 1)
+  pub ending : oneOf closing (s .op) ≡ true → Names (s .target) × Ends ed h w e (s .target - 1)
   ending t = (
     written-named _ _ (escrow-written L read answered t) (omega (arith, small .escrows)),
     ends-of ed (p .sized .small) h w e r small good (s .target - 1) (escrow-row L read answered t) (escrow-open L read answered t),
   )
-
-  pub releasing : s .op ≡ RELEASE → Names (s .target) × Ends ed h w e (s .target - 1)
-  releasing o = ending (ap (oneOf closing) o)
-
-  pub refunding : s .op ≡ REFUND → Names (s .target) × Ends ed h w e (s .target - 1)
-  refunding o = ending (ap (oneOf closing) o)
 
   -- 6
   pub claiming : Claiming h

@@ -24,7 +24,8 @@ slice-aggregate-append c = search needs
 
 append-requires : tie.Need-append-requires
 append-requires c κs =
-    let made = c .before .before .before .before .before .before .before .before .before .before .before in
+    let moved = c .before .before .before .before .before in
+    let made = moved .before .before .before .before .before .before in
     let found = made .before .before .before in
     can-open _ _ _ _ _ _ _ (found .before .before .before .before .before .before .pre) (found .find-wallet .ensures) (made .ensure-wallet .ensures .1)
 
