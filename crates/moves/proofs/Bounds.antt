@@ -27,7 +27,6 @@ module _ (ed : Edition) (len : ed .escrow < 2 ^ 16) (h w e r : List ℕ) (small 
       record {
         counted = counted-of;
         len = len;
-        row = omega (arith, small .escrows);
         held = escrow-held L good i l o;
         back = omega (arith, a, balance-most L good (walletRow L (escrow L i FROM)) (from-written L good i l));
         paid = omega (arith, a, balance-most L good (walletRow L (escrow L i TO)) (to-written L good i l));
@@ -39,7 +38,6 @@ module _ (ed : Edition) (len : ed .escrow < 2 ^ 16) (h w e r : List ℕ) (small 
       let k = receipt L i RECEIPT-LINK in
       record {
         len = len;
-        row = omega (arith, small .receipts);
         link = omega (arith, small .escrows, good .links i l);
         ends = λ ne o. ends-of (k - 1) (link-row L good i l ne)
             (and-fst (eqb (escrow L (k - 1) ESCROW-STATE) IS-OPEN) (leb now (escrow L (k - 1) ESCROW-DEADLINE)) o);

@@ -1,16 +1,17 @@
 -- What a move may rely on, over the lent lists alone: counts within their tables, and credits that neither wrap nor fall below zero.
 use mathlib.Core.Path.{_≡_}
 use mathlib.Core.Logic.{_≢_}
-use mathlib.Core.List.{List}
-use mathlib.Core.Bool.{Bool, true, _&&_}
+use mathlib.Core.List.{List, []}
+use mathlib.Core.Bool.{true}
 use Prim.Native.Nat.{ℕ, _+_, _-_, _*_, _<_, _≤_, _^_}
 use lib.ListN.{length, getD}
-use lib.Dec.{eqb, leb}
 use Rattle.rules.specs.Limits.{HEADER-LEN, WALLET-LEN, RECEIPT-LEN, MAX-WALLETS, MAX-ESCROWS, MAX-RECEIPTS, WALLETS, ESCROWS, RECEIPTS, BALANCE, LOCKED}
-use Rattle.rules.specs.Limits.{FROM, TO, ESCROW-AMOUNT, ESCROW-STATE, ESCROW-DEADLINE, IS-OPEN, RECEIPT-LINK}
-use Rattle.rules.specs.Table.{word}
-use Rattle.rules.specs.Ledger.{rowOf}
+use Rattle.rules.specs.Limits.{FROM, TO, ESCROW-AMOUNT, RECEIPT-LINK}
+use Rattle.rules.specs.Table.{word, put}
+use Rattle.rules.specs.Ledger.{rowOf, ledgerOf}
+use Rattle.rules.specs.Refusals.{releasable}
 use Rattle.rules.specs.declared.Edition.{Edition}
+use Rattle.rows.specs.Numbered.{Names}
 
 -- the row of a wallet, of those that the header counts
 abbrev pub rowIn : List ℕ → List ℕ → ℕ → ℕ
@@ -29,15 +30,26 @@ pub record Counted (header wallets : List ℕ) : Type 0 where
   pub most : getD header WALLETS 0 ≤ MAX-WALLETS
   pub there : getD header WALLETS 0 * WALLET-LEN ≤ length wallets
 
--- the escrow in row i is open and not stale
-abbrev pub releasableIn : Edition → List ℕ → ℕ → ℕ → Bool
-releasableIn ed escrows now i = eqb (word escrows (ed .escrow) i ESCROW-STATE) IS-OPEN && leb now (word escrows (ed .escrow) i ESCROW-DEADLINE)
+-- more and less in word k of the wallet in row i
+abbrev pub more : List ℕ → ℕ → ℕ → ℕ → List ℕ
+more wallets i k a = put wallets WALLET-LEN i k (word wallets WALLET-LEN i k + a)
+
+abbrev pub less : List ℕ → ℕ → ℕ → ℕ → List ℕ
+less wallets i k a = put wallets WALLET-LEN i k (word wallets WALLET-LEN i k - a)
+
+-- an amount can move from word k of a wallet to word j of another: the one has it, and the other can take it
+pub record Moves (wallets : List ℕ) (from k to j amount : ℕ) : Type 0 where
+  pub from-names : Names from
+  pub to-names : Names to
+  pub from-word : k < 2 ^ 16
+  pub to-word : j < 2 ^ 16
+  pub enough : amount ≤ word wallets WALLET-LEN (from - 1) k
+  pub fits : word wallets WALLET-LEN (to - 1) j + amount < 2 ^ 64
 
 -- the escrow in row i can end: its sender has its amount locked, and either party can take it
 pub record Ends (ed : Edition) (header wallets escrows : List ℕ) (i : ℕ) : Type 0 where
   pub counted : Counted header wallets
   pub len : ed .escrow < 2 ^ 16
-  pub row : i < MAX-ESCROWS
   pub held :
       word escrows (ed .escrow) i ESCROW-AMOUNT ≤ word wallets WALLET-LEN (rowIn header wallets (word escrows (ed .escrow) i FROM)) LOCKED
   pub back :
@@ -48,9 +60,8 @@ pub record Ends (ed : Edition) (header wallets escrows : List ℕ) (i : ℕ) : T
 -- the receipt in row i can be accepted: an open escrow that it links can end
 pub record Accepts (ed : Edition) (header wallets escrows receipts : List ℕ) (now i : ℕ) : Type 0 where
   pub len : ed .escrow < 2 ^ 16
-  pub row : i < MAX-RECEIPTS
   pub link : word receipts RECEIPT-LEN i RECEIPT-LINK ≤ MAX-ESCROWS
   pub ends :
       word receipts RECEIPT-LEN i RECEIPT-LINK ≢ 0
-      → releasableIn ed escrows now (word receipts RECEIPT-LEN i RECEIPT-LINK - 1) ≡ true
+      → releasable (ledgerOf ed header wallets escrows receipts []) now (word receipts RECEIPT-LEN i RECEIPT-LINK - 1) ≡ true
       → Ends ed header wallets escrows (word receipts RECEIPT-LEN i RECEIPT-LINK - 1)

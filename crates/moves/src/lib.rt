@@ -1,8 +1,10 @@
 // Small moves on the lent tables: a row added, credits moved, a row closed, an escrow ended, a receipt accepted. Each says what its
 // tables hold afterwards; what it may rely on stands in specs/Needs.antt.
+use rows::numbered;
 use rules::Edition;
 use rules::EscrowNumber;
 use rules::ReceiptNumber;
+use rules::WalletNumber;
 use rules::limits::ACCEPTED;
 use rules::limits::BALANCE;
 use rules::limits::DEFAULT_DAILY_CAP_MICRO;
@@ -17,7 +19,6 @@ use rules::limits::IS_OPEN;
 use rules::limits::LOCKED;
 use rules::limits::RECEIPT_CLOSED_AT;
 use rules::limits::RECEIPT_CLOSED_BY;
-use rules::limits::RECEIPT_LEN;
 use rules::limits::RECEIPT_LINK;
 use rules::limits::RECEIPT_STATE;
 use rules::limits::RELEASE_CODE;
@@ -31,12 +32,14 @@ ghost use mathlib.Core.Bool.{cond};
 ghost use Prim.Native.Nat.{_+_, _-_, _*_, _<_, _≤_, _^_};
 ghost use lib.ListN.{length, getD, set};
 ghost use lib.Dec.{eqb};
-ghost use Rattle.rules.specs.Limits.{WALLET-LEN, WALLETS, ESCROW-STATE, ESCROW-CLOSED-AT, ESCROW-CLOSED-BY, RELEASED};
-ghost use Rattle.rules.specs.Table.{word, put, putRow};
+ghost use Rattle.rules.specs.Limits.{WALLET-LEN, ESCROW-STATE, ESCROW-CLOSED-AT, ESCROW-CLOSED-BY, RELEASED};
+ghost use Rattle.rules.specs.Table.{word, putRow};
 ghost use Rattle.rules.specs.Ledger.{Ledger, rowOf, putEscrow};
 ghost use Rattle.rules.specs.Moments.{any, _of-edition_, _with-header_, _with-wallets_, _with-escrows_, _with-receipts_};
 ghost use Rattle.rules.specs.Settle.{ensureWallet, endEscrow, closeReceipt, acceptRow, done};
-ghost use Rattle.moves.specs.Needs.{Counted, Ends, Accepts, releasableIn};
+ghost use Rattle.rules.specs.Refusals.{releasable};
+ghost use Rattle.rows.specs.Numbered.{Names};
+ghost use Rattle.moves.specs.Needs.{rowIn, more, less, Counted, Moves, Ends, Accepts};
 
 // A new row in the first unwritten place of a table; the header's word `count` counts its rows. Its number.
 pub fn append(header: &mut [u64], t: &mut [u64], len: usize, count: usize, words: &[u64]) -> u64
@@ -49,32 +52,41 @@ pub fn append(header: &mut [u64], t: &mut [u64], len: usize, count: usize, words
     row + 1
 }
 
-// Less in word k of a wallet.
-pub fn lower(wallets: &mut [u64], row: usize, k: usize, amount: u64)
-    requires { ⌜ (row < 2 ^ 32) × (k < 2 ^ 16) × (amount ≤ word (now wallets) WALLET-LEN row k) ⌝ }
-    ensures { λ x. ⌜ now (wallets .exit) ≡ put (now (wallets .entry)) WALLET-LEN row k (word (now (wallets .entry)) WALLET-LEN row k - amount) ⌝ }
-{
-    let had = rows::get(wallets, WALLET_LEN, row, k);
-    rows::set(wallets, WALLET_LEN, row, k, had - amount);
-}
-
 // More in word k of a wallet.
-pub fn raise(wallets: &mut [u64], row: usize, k: usize, amount: u64)
-    requires { ⌜ (row < 2 ^ 32) × (k < 2 ^ 16) × (word (now wallets) WALLET-LEN row k + amount < 2 ^ 64) ⌝ }
-    ensures { λ x. ⌜ now (wallets .exit) ≡ put (now (wallets .entry)) WALLET-LEN row k (word (now (wallets .entry)) WALLET-LEN row k + amount) ⌝ }
+pub fn raise(wallets: &mut [u64], number: WalletNumber, k: usize, amount: u64)
+    requires { ⌜ Names (number .0) × (k < 2 ^ 16) × (word (now wallets) WALLET-LEN (number .0 - 1) k + amount < 2 ^ 64) ⌝ }
+    ensures { λ x. ⌜ now (wallets .exit) ≡ more (now (wallets .entry)) (number .0 - 1) k amount ⌝ }
 {
-    let had = rows::get(wallets, WALLET_LEN, row, k);
-    rows::set(wallets, WALLET_LEN, row, k, had + amount);
+    let had = numbered::wallet(wallets, number, k);
+    numbered::set_wallet(wallets, number, k, had + amount);
 }
 
-// A missing wallet is made: zeros and the usual caps. `row` is where the search for it ended.
-pub fn ensure_wallet(header: &mut [u64], wallets: &mut [u64], row: usize, id: u64)
-    requires { ⌜ Counted (now header) (now wallets) × (row ≡ rowOf (now wallets) (getD (now header) WALLETS 0) id) ⌝ }
-    ensures { λ x. ⌜ ((K : Ledger) → let L = any K with-header header with-wallets wallets in L .exit ≡ ensureWallet id (L .entry)) ⌝ }
+// Credits move from word k of a wallet to word j of another, or of the same.
+pub fn move_credits(
+    wallets: &mut [u64],
+    from: WalletNumber,
+    k: usize,
+    to: WalletNumber,
+    j: usize,
+    amount: u64,
+)
+    requires { ⌜ Moves (now wallets) (from .0) k (to .0) j amount ⌝ }
+    ensures { λ x. ⌜ now (wallets .exit) ≡ more (less (now (wallets .entry)) (from .0 - 1) k amount) (to .0 - 1) j amount ⌝ }
 {
-    let written = header[WALLETS] as usize;
-    if row < written {
-        return;
+    let had = numbered::wallet(wallets, from, k);
+    numbered::set_wallet(wallets, from, k, had - amount);
+    raise(wallets, to, j, amount);
+}
+
+// The wallet of an id. A missing one is made: zeros and the usual caps.
+pub fn ensure_wallet(header: &mut [u64], wallets: &mut [u64], id: u64) -> WalletNumber
+    requires { ⌜ Counted (now header) (now wallets) ⌝ }
+    ensures { λ x. ⌜ (x .0 ≡ rowIn (now (header .entry)) (now (wallets .entry)) id + 1) × ((K : Ledger) → let L = any K with-header header with-wallets wallets in L .exit ≡ ensureWallet id (L .entry)) ⌝ }
+{
+    let written = header[WALLETS];
+    let number = numbered::find_wallet(wallets, written as usize, id);
+    if number.0 <= written {
+        return number;
     }
     append(
         header,
@@ -83,22 +95,23 @@ pub fn ensure_wallet(header: &mut [u64], wallets: &mut [u64], row: usize, id: u6
         WALLETS,
         &[id, 0, 0, 0, DEFAULT_TX_CAP_MICRO, DEFAULT_DAILY_CAP_MICRO],
     );
+    number
 }
 
-// Where an ended escrow pays: the recipient's row if it is released, else the sender's own, which is known.
-fn payee_row(
+// Whom an ended escrow pays: the recipient if it is released, else the sender, whose wallet is known.
+fn payee(
     wallets: &[u64],
     written: usize,
     state: u64,
-    sender: usize,
+    sender: WalletNumber,
     from: u64,
     to: u64,
-) -> usize
-    requires { ⌜ (written * WALLET-LEN ≤ length (now wallets)) × (sender ≡ rowOf (now wallets) written from) ⌝ }
-    ensures { λ x. ⌜ x ≡ rowOf (now (wallets .entry)) written (cond (eqb state RELEASED) to from) ⌝ }
+) -> WalletNumber
+    requires { ⌜ (written * WALLET-LEN ≤ length (now wallets)) × (sender .0 ≡ rowOf (now wallets) written from + 1) ⌝ }
+    ensures { λ x. ⌜ x .0 ≡ rowOf (now (wallets .entry)) written (cond (eqb state RELEASED) to from) + 1 ⌝ }
 {
     if state == RELEASED {
-        rows::find_row(wallets, written, to)
+        numbered::find_wallet(wallets, written, to)
     } else {
         sender
     }
@@ -108,17 +121,17 @@ fn payee_row(
 fn close_escrow(
     edition: Edition,
     escrows: &mut [u64],
-    row: usize,
+    number: EscrowNumber,
     state: u64,
     time: u64,
     signer: u64,
 )
-    requires { ⌜ (row < 2 ^ 32) × (edition .escrow < 2 ^ 16) ⌝ }
-    ensures { λ x. ⌜ ((K : Ledger) → let L = any K of-edition edition with-escrows escrows in L .exit ≡ putEscrow row ESCROW-CLOSED-BY signer (putEscrow row ESCROW-CLOSED-AT time (putEscrow row ESCROW-STATE state (L .entry)))) ⌝ }
+    requires { ⌜ Names (number .0) × (edition .escrow < 2 ^ 16) ⌝ }
+    ensures { λ x. ⌜ ((K : Ledger) → let L = any K of-edition edition with-escrows escrows in L .exit ≡ putEscrow (number .0 - 1) ESCROW-CLOSED-BY signer (putEscrow (number .0 - 1) ESCROW-CLOSED-AT time (putEscrow (number .0 - 1) ESCROW-STATE state (L .entry)))) ⌝ }
 {
-    rows::set(escrows, edition.escrow, row, ESCROW_STATE, state);
-    rows::set(escrows, edition.escrow, row, ESCROW_CLOSED_AT, time);
-    rows::set(escrows, edition.escrow, row, ESCROW_CLOSED_BY, signer);
+    numbered::set_escrow(edition, escrows, number, ESCROW_STATE, state);
+    numbered::set_escrow(edition, escrows, number, ESCROW_CLOSED_AT, time);
+    numbered::set_escrow(edition, escrows, number, ESCROW_CLOSED_BY, signer);
 }
 
 // An escrow ends: its credits leave its sender's locked for the recipient's balance if it is released, else for the sender's own.
@@ -132,19 +145,17 @@ pub fn end_escrow(
     time: u64,
     signer: u64,
 )
-    requires { ⌜ (1 ≤ number .0) × Ends edition (now header) (now wallets) (now escrows) (number .0 - 1) ⌝ }
+    requires { ⌜ Names (number .0) × Ends edition (now header) (now wallets) (now escrows) (number .0 - 1) ⌝ }
     ensures { λ x. ⌜ ((K : Ledger) → let L = any K of-edition edition with-header header with-wallets wallets with-escrows escrows in L .exit ≡ endEscrow state time signer (number .0 - 1) (L .entry)) ⌝ }
 {
-    let row = (number.0 - 1) as usize;
-    let from = rows::get(escrows, edition.escrow, row, FROM);
-    let to = rows::get(escrows, edition.escrow, row, TO);
-    let amount = rows::get(escrows, edition.escrow, row, ESCROW_AMOUNT);
+    let from = numbered::escrow(edition, escrows, number, FROM);
+    let to = numbered::escrow(edition, escrows, number, TO);
+    let amount = numbered::escrow(edition, escrows, number, ESCROW_AMOUNT);
     let written = header[WALLETS] as usize;
-    let sender = rows::find_row(wallets, written, from);
-    let payee = payee_row(wallets, written, state, sender, from, to);
-    close_escrow(edition, escrows, row, state, time, signer);
-    lower(wallets, sender, LOCKED, amount);
-    raise(wallets, payee, BALANCE, amount);
+    let sender = numbered::find_wallet(wallets, written, from);
+    let paid = payee(wallets, written, state, sender, from, to);
+    close_escrow(edition, escrows, number, state, time, signer);
+    move_credits(wallets, sender, LOCKED, paid, BALANCE, amount);
 }
 
 // A receipt is closed: state, closed at and closing signer.
@@ -155,22 +166,21 @@ pub fn close_receipt(
     time: u64,
     signer: u64,
 )
-    requires { ⌜ (1 ≤ number .0) × (number .0 - 1 < 2 ^ 32) ⌝ }
+    requires { ⌜ Names (number .0) ⌝ }
     ensures { λ x. ⌜ ((K : Ledger) → let L = any K with-receipts receipts in L .exit ≡ closeReceipt state time signer (number .0 - 1) (L .entry)) ⌝ }
 {
-    let row = (number.0 - 1) as usize;
-    rows::set(receipts, RECEIPT_LEN, row, RECEIPT_STATE, state);
-    rows::set(receipts, RECEIPT_LEN, row, RECEIPT_CLOSED_AT, time);
-    rows::set(receipts, RECEIPT_LEN, row, RECEIPT_CLOSED_BY, signer);
+    numbered::set_receipt(receipts, number, RECEIPT_STATE, state);
+    numbered::set_receipt(receipts, number, RECEIPT_CLOSED_AT, time);
+    numbered::set_receipt(receipts, number, RECEIPT_CLOSED_BY, signer);
 }
 
 // Whether an escrow is open and not stale.
-fn is_releasable(edition: Edition, escrows: &[u64], row: usize, time: u64) -> bool
-    requires { ⌜ (row < 2 ^ 32) × (edition .escrow < 2 ^ 16) ⌝ }
-    ensures { λ x. ⌜ x ≡ releasableIn edition (now (escrows .entry)) time row ⌝ }
+fn is_releasable(edition: Edition, escrows: &[u64], number: EscrowNumber, time: u64) -> bool
+    requires { ⌜ Names (number .0) × (edition .escrow < 2 ^ 16) ⌝ }
+    ensures { λ x. ⌜ ((K : Ledger) → let L = any K of-edition edition with-escrows escrows in x ≡ releasable (L .entry) time (number .0 - 1)) ⌝ }
 {
-    let state = rows::get(escrows, edition.escrow, row, ESCROW_STATE);
-    let deadline = rows::get(escrows, edition.escrow, row, ESCROW_DEADLINE);
+    let state = numbered::escrow(edition, escrows, number, ESCROW_STATE);
+    let deadline = numbered::escrow(edition, escrows, number, ESCROW_DEADLINE);
     (state == IS_OPEN) & (time <= deadline)
 }
 
@@ -185,29 +195,27 @@ pub fn accept_receipt(
     time: u64,
     signer: u64,
 ) -> u64
-    requires { ⌜ (1 ≤ number .0) × Accepts edition (now header) (now wallets) (now escrows) (now receipts) time (number .0 - 1) ⌝ }
+    requires { ⌜ Names (number .0) × Accepts edition (now header) (now wallets) (now escrows) (now receipts) time (number .0 - 1) ⌝ }
     ensures { λ x. ⌜ ((K : Ledger) → let L = any K of-edition edition with-header header with-wallets wallets with-escrows escrows with-receipts receipts in done x (L .exit) ≡ acceptRow time signer (number .0 - 1) (L .entry)) ⌝ }
 {
-    let row = (number.0 - 1) as usize;
-    let link = rows::get(receipts, RECEIPT_LEN, row, RECEIPT_LINK);
+    let link = EscrowNumber(numbered::receipt(receipts, number, RECEIPT_LINK));
     close_receipt(receipts, number, ACCEPTED, time, signer);
-    if link == 0 {
+    if link.0 == 0 {
         return 0;
     }
-    if is_releasable(edition, escrows, (link - 1) as usize, time) {
-        let escrow = EscrowNumber(link);
+    if is_releasable(edition, escrows, link, time) {
         end_escrow(
             edition,
             header,
             wallets,
             escrows,
-            escrow,
+            link,
             RELEASED,
             time,
             signer,
         );
-        return link;
+        return link.0;
     }
-    rows::set(receipts, RECEIPT_LEN, row, RELEASE_CODE, RELEASE_IMPOSSIBLE);
+    numbered::set_receipt(receipts, number, RELEASE_CODE, RELEASE_IMPOSSIBLE);
     0
 }

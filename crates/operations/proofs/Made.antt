@@ -3,14 +3,14 @@
 use mathlib.Core.Path.{_≡_, refl, sym, ap, _∙_, subst}
 use mathlib.Core.Logic.{_≢_}
 use mathlib.Core.List.{List, []}
-use Prim.Native.Nat.{ℕ, _+_, _<_, _≤_, _^_}
+use Prim.Native.Nat.{ℕ, _+_, _-_, _<_, _≤_, _^_}
 use native.Mathlib.Omega.{arith}
 use lib.ListN.{length, getD, set, length-set}
 use lib.Seq.{getD-set-same, getD-set-other}
 use lib.Dec.{lit<}
 use borrow.Author.Tests.{ltb-true, ltb-false}
 use Rattle.rules.specs.Limits.{WALLET-LEN, MAX-GRANTED-MICRO, WALLETS, BALANCE, GRANTED}
-use Rattle.rules.specs.Table.{word, put, putRow}
+use Rattle.rules.specs.Table.{word, putRow}
 use Rattle.rules.specs.Ledger.{Ledger, ledger, rowOf, hasWallet, putHead, newWallet, putWallet}
 use Rattle.rules.specs.Settle.{blankWallet, ensureWallet, raise, grant, done}
 use Rattle.rules.specs.declared.Submission.{Submission}
@@ -18,8 +18,9 @@ use Rattle.rules.proofs.Bools.{cond-case}
 use Rattle.rules.proofs.Rows.{room, word-old, word-new}
 use Rattle.rules.proofs.Accounts.{row-le, new-row-old, new-row-id}
 use Rattle.rules.proofs.UpTo.{upToWallets}
-use Rattle.moves.specs.Needs.{rowIn}
-use Rattle.moves.proofs.Wallets.{row-small}
+use Rattle.rows.specs.Numbered.{Names}
+use Rattle.moves.specs.Needs.{rowIn, more}
+use Rattle.moves.proofs.Wallets.{row-at, wallet-named}
 use Rattle.operations.specs.Needs.{Receiving, Granting}
 
 -- h₁ and w₁ are h and w with a wallet of id
@@ -81,16 +82,16 @@ module _ (h w : List ℕ) (s : Submission) (ready : Receiving h w s) where
   made h₁ w₁ q = subst (λ (L : Ledger). Made h w (L .header) (L .wallets) (s .target)) (sym (q some-ledger)) (made-by some-ledger)
 
 -- a grant
-module _ (h w h₁ w₁ : List ℕ) (s : Submission) (row : ℕ) (ready : Granting h w s) (x : row ≡ rowIn h w (s .target))
+module _ (h w h₁ w₁ : List ℕ) (s : Submission) (target : ℕ) (ready : Granting h w s) (x : target ≡ rowIn h w (s .target) + 1)
     (q : Ensures h w h₁ w₁ (s .target)) where
-  pub can-grant : (row < 2 ^ 32) × (BALANCE < 2 ^ 16) × (word w₁ WALLET-LEN row BALANCE + s .amount < 2 ^ 64)
+  pub can-grant : Names target × (BALANCE < 2 ^ 16) × (word w₁ WALLET-LEN (target - 1) BALANCE + s .amount < 2 ^ 64)
   can-grant =
-      let b : word w₁ WALLET-LEN row BALANCE ≤ MAX-GRANTED-MICRO = rw x (made h w s (ready .receiving) h₁ w₁ q .balance) in
-      (rw x (row-small h w (s .target) (ready .receiving .counted)), lit< tt, omega (arith, ready .receiving .amount))
+      let b : word w₁ WALLET-LEN (target - 1) BALANCE ≤ MAX-GRANTED-MICRO = rw (row-at h w (s .target) target x) (made h w s (ready .receiving) h₁ w₁ q .balance) in
+      (wallet-named h w (s .target) target (ready .receiving .counted) x, lit< tt, omega (arith, ready .receiving .amount))
 
   pub granted-by :
       (w₂ : List ℕ)
-      → w₂ ≡ put w₁ WALLET-LEN row BALANCE (word w₁ WALLET-LEN row BALANCE + s .amount)
+      → w₂ ≡ more w₁ (target - 1) BALANCE (s .amount)
       → (K : Ledger) → done 0 (upToWallets K (set h₁ GRANTED (getD h GRANTED 0 + s .amount)) w₂) ≡ grant s (upToWallets K h w)
   unfolding grant putHead raise putWallet
-  granted-by w₂ y K = rw (← q K, made h w s (ready .receiving) h₁ w₁ q .self, y, x)
+  granted-by w₂ y K = rw (← q K, made h w s (ready .receiving) h₁ w₁ q .self, y, row-at h w (s .target) target x)

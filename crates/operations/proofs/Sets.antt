@@ -1,9 +1,8 @@
 -- Operations that set words and move no credits: a receipt claimed, a flag, the caps.
 use mathlib.Core.Path.{_≡_}
 use mathlib.Core.List.{List, [], _∷_}
-use Prim.Native.Nat.{ℕ, _+_, _<_, _^_}
+use Prim.Native.Nat.{ℕ, _+_, _-_, _<_, _^_}
 use lib.ListN.{getD, set}
-use lib.Dec.{lit<}
 use borrow.Author.Tests.{eq-eqb, ne-eqb}
 use Rattle.rules.specs.Limits.{WALLET-LEN, RECEIPT-LEN, SYSTEM-FROZEN, RECEIPTS, FROZEN, TX-CAP, DAILY-CAP, PENDING, AUTO-OR-FREEZE}
 use Rattle.rules.specs.Table.{put, putRow}
@@ -12,8 +11,9 @@ use Rattle.rules.specs.Record.{bit}
 use Rattle.rules.specs.Settle.{claim, freeze, caps, done}
 use Rattle.rules.specs.declared.Submission.{Submission}
 use Rattle.rules.proofs.UpTo.{upToWallets}
+use Rattle.rows.specs.Numbered.{Names}
 use Rattle.moves.specs.Needs.{Counted, rowIn}
-use Rattle.moves.proofs.Wallets.{row-small}
+use Rattle.moves.proofs.Wallets.{row-at, wallet-named}
 
 pub claimed :
     (K : Ledger) (h r h₁ r₁ : List ℕ) (s : Submission) (auto number : ℕ)
@@ -35,24 +35,24 @@ unfolding freeze putHead
 system-frozen K h w s frozen f z = rw (eq-eqb _ _ z, f)
 
 pub wallet-frozen :
-    (K : Ledger) (h w w₁ : List ℕ) (s : Submission) (frozen row : ℕ)
+    (K : Ledger) (h w w₁ : List ℕ) (s : Submission) (frozen target : ℕ)
     → frozen ≡ bit AUTO-OR-FREEZE (s .flags)
     → (s .target ≡ 0 → ⊥)
-    → row ≡ rowIn h w (s .target)
-    → w₁ ≡ put w WALLET-LEN row FROZEN frozen
+    → target ≡ rowIn h w (s .target) + 1
+    → w₁ ≡ put w WALLET-LEN (target - 1) FROZEN frozen
     → done 0 (upToWallets K h w₁) ≡ freeze s (upToWallets K h w)
 unfolding freeze putWallet
-wallet-frozen K h w w₁ s frozen row f z x y = rw (ne-eqb _ _ z, y, x, f)
+wallet-frozen K h w w₁ s frozen target f z x y = rw (ne-eqb _ _ z, y, row-at h w (s .target) target x, f)
 
 pub capped :
-    (K : Ledger) (h w w₁ w₂ : List ℕ) (s : Submission) (row : ℕ)
-    → row ≡ rowIn h w (s .target)
-    → w₁ ≡ put w WALLET-LEN row TX-CAP (s .amount)
-    → w₂ ≡ put w₁ WALLET-LEN row DAILY-CAP (s .link)
+    (K : Ledger) (h w w₁ w₂ : List ℕ) (s : Submission) (target : ℕ)
+    → target ≡ rowIn h w (s .target) + 1
+    → w₁ ≡ put w WALLET-LEN (target - 1) TX-CAP (s .amount)
+    → w₂ ≡ put w₁ WALLET-LEN (target - 1) DAILY-CAP (s .link)
     → done 0 (upToWallets K h w₂) ≡ caps s (upToWallets K h w)
 unfolding caps putWallet
-capped K h w w₁ w₂ s row x y z = rw (z, y, x)
+capped K h w w₁ w₂ s target x y z = rw (z, y, row-at h w (s .target) target x)
 
 -- a word of the target's wallet can be set
-pub can-set : (h w : List ℕ) (id row k : ℕ) → Counted h w → row ≡ rowIn h w id → k < 2 ^ 16 → (row < 2 ^ 32) × (WALLET-LEN < 2 ^ 16) × (k < 2 ^ 16)
-can-set h w id row k c x l = (rw x (row-small h w id c), lit< tt, l)
+pub can-set : (h w : List ℕ) (id target k : ℕ) → Counted h w → target ≡ rowIn h w id + 1 → k < 2 ^ 16 → Names target × (k < 2 ^ 16)
+can-set h w id target k c x l = (wallet-named h w id target c x, l)

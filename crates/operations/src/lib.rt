@@ -1,5 +1,6 @@
 // What each operation but the sweep does to the tables, over the small moves. Clock and journal are left to `settling`. What an operation
 // may rely on stands in specs/Needs.antt; it is what no refusal and a sound ledger leave.
+use rows::numbered;
 use rules::Edition;
 use rules::EscrowNumber;
 use rules::ReceiptNumber;
@@ -16,20 +17,18 @@ use rules::limits::LOCKED;
 use rules::limits::PENDING;
 use rules::limits::RECEIPT_LEN;
 use rules::limits::RECEIPTS;
-use rules::limits::REFUNDED;
-use rules::limits::RELEASED;
 use rules::limits::SYSTEM_FROZEN;
 use rules::limits::TX_CAP;
-use rules::limits::WALLET_LEN;
 use rules::limits::WALLETS;
 ghost use mathlib.Core.Path.{_≡_};
-ghost use Prim.Native.Nat.{_-_, _≤_};
-ghost use Rattle.rules.specs.Limits.{MAX-RECEIPTS, BALANCE, AUTO-OR-FREEZE};
+ghost use Prim.Native.Nat.{_-_};
+ghost use Rattle.rules.specs.Limits.{AUTO-OR-FREEZE};
 ghost use Rattle.rules.specs.Ledger.{Ledger};
 ghost use Rattle.rules.specs.Moments.{any, _of-edition_, _with-header_, _with-wallets_, _with-escrows_, _with-receipts_};
 ghost use Rattle.rules.specs.Record.{bit};
-ghost use Rattle.rules.specs.Settle.{done, lower, ensureWallet, grant, transfer, openEscrow, release, refund, claim, accept, dispute, freeze, caps};
-ghost use Rattle.moves.specs.Needs.{rowIn, Counted, Ends, Accepts};
+ghost use Rattle.rules.specs.Settle.{done, grant, transfer, openEscrow, endEscrow, claim, accept, dispute, freeze, caps};
+ghost use Rattle.rows.specs.Numbered.{Names};
+ghost use Rattle.moves.specs.Needs.{Counted, Ends, Accepts};
 ghost use Rattle.operations.specs.Needs.{Granting, Paying, Opening, Claiming};
 
 // Grant raises the target's balance and the granted total.
@@ -38,39 +37,20 @@ pub fn grant(header: &mut [u64], wallets: &mut [u64], s: Submission) -> u64
     ensures { λ x. ⌜ ((K : Ledger) → let L = any K with-header header with-wallets wallets in done x (L .exit) ≡ grant s (L .entry)) ⌝ }
 {
     let granted = header[GRANTED];
-    let row = rows::find_row(wallets, header[WALLETS] as usize, s.target);
-    moves::ensure_wallet(header, wallets, row, s.target);
-    moves::raise(wallets, row, BALANCE, s.amount);
+    let target = moves::ensure_wallet(header, wallets, s.target);
+    moves::raise(wallets, target, BALANCE, s.amount);
     header[GRANTED] = granted + s.amount;
     0
 }
 
-// Where a payment goes from and to.
-struct Parties {
-    pub signer: usize,
-    pub target: usize,
-}
-
-// The first half of a payment: the target has a wallet, and the amount has left the signer's balance.
-fn pay(header: &mut [u64], wallets: &mut [u64], s: Submission) -> Parties
-    requires { ⌜ Paying (now header) (now wallets) s ⌝ }
-    ensures { λ x. ⌜ (x .signer ≡ rowIn (now (header .entry)) (now (wallets .entry)) (s .signer)) × (x .target ≡ rowIn (now (header .entry)) (now (wallets .entry)) (s .target)) × ((K : Ledger) → let L = any K with-header header with-wallets wallets in L .exit ≡ lower BALANCE (s .signer) (s .amount) (ensureWallet (s .target) (L .entry))) ⌝ }
-{
-    let written = header[WALLETS] as usize;
-    let signer = rows::find_row(wallets, written, s.signer);
-    let target = rows::find_row(wallets, written, s.target);
-    moves::ensure_wallet(header, wallets, target, s.target);
-    moves::lower(wallets, signer, BALANCE, s.amount);
-    Parties { signer, target }
-}
-
-// Transfer moves balance.
+// Transfer moves balance. The signer is looked up among the wallets that are there, before the target's is made.
 pub fn transfer(header: &mut [u64], wallets: &mut [u64], s: Submission) -> u64
     requires { ⌜ Paying (now header) (now wallets) s ⌝ }
     ensures { λ x. ⌜ ((K : Ledger) → let L = any K with-header header with-wallets wallets in done x (L .exit) ≡ transfer s (L .entry)) ⌝ }
 {
-    let parties = pay(header, wallets, s);
-    moves::raise(wallets, parties.target, BALANCE, s.amount);
+    let signer = numbered::find_wallet(wallets, header[WALLETS] as usize, s.signer);
+    let target = moves::ensure_wallet(header, wallets, s.target);
+    moves::move_credits(wallets, signer, BALANCE, target, BALANCE, s.amount);
     0
 }
 
@@ -85,8 +65,9 @@ pub fn open_escrow(
     requires { ⌜ Opening edition (now header) (now wallets) s ⌝ }
     ensures { λ x. ⌜ ((K : Ledger) → let L = any K of-edition edition with-header header with-wallets wallets with-escrows escrows in done x (L .exit) ≡ openEscrow s (L .entry)) ⌝ }
 {
-    let parties = pay(header, wallets, s);
-    moves::raise(wallets, parties.signer, LOCKED, s.amount);
+    let signer = numbered::find_wallet(wallets, header[WALLETS] as usize, s.signer);
+    moves::ensure_wallet(header, wallets, s.target);
+    moves::move_credits(wallets, signer, BALANCE, signer, LOCKED, s.amount);
     moves::append(
         header,
         escrows,
@@ -96,16 +77,17 @@ pub fn open_escrow(
     )
 }
 
-// Release pays the recipient.
-pub fn release(
+// Release and refund end the escrow that the target names, in the state that is given: release pays the recipient, refund the sender.
+pub fn close_escrow(
     edition: Edition,
     header: &[u64],
     wallets: &mut [u64],
     escrows: &mut [u64],
     s: Submission,
+    state: u64,
 ) -> u64
-    requires { ⌜ (1 ≤ s .target) × Ends edition (now header) (now wallets) (now escrows) (s .target - 1) ⌝ }
-    ensures { λ x. ⌜ ((K : Ledger) → let L = any K of-edition edition with-header header with-wallets wallets with-escrows escrows in done x (L .exit) ≡ release s (L .entry)) ⌝ }
+    requires { ⌜ Names (s .target) × Ends edition (now header) (now wallets) (now escrows) (s .target - 1) ⌝ }
+    ensures { λ x. ⌜ ((K : Ledger) → let L = any K of-edition edition with-header header with-wallets wallets with-escrows escrows in done x (L .exit) ≡ done 0 (endEscrow state (s .now) (s .signer) (s .target - 1) (L .entry))) ⌝ }
 {
     let number = EscrowNumber(s.target);
     moves::end_escrow(
@@ -114,32 +96,7 @@ pub fn release(
         wallets,
         escrows,
         number,
-        RELEASED,
-        s.now,
-        s.signer,
-    );
-    0
-}
-
-// Refund returns it to the sender.
-pub fn refund(
-    edition: Edition,
-    header: &[u64],
-    wallets: &mut [u64],
-    escrows: &mut [u64],
-    s: Submission,
-) -> u64
-    requires { ⌜ (1 ≤ s .target) × Ends edition (now header) (now wallets) (now escrows) (s .target - 1) ⌝ }
-    ensures { λ x. ⌜ ((K : Ledger) → let L = any K of-edition edition with-header header with-wallets wallets with-escrows escrows in done x (L .exit) ≡ refund s (L .entry)) ⌝ }
-{
-    let number = EscrowNumber(s.target);
-    moves::end_escrow(
-        edition,
-        header,
-        wallets,
-        escrows,
-        number,
-        REFUNDED,
+        state,
         s.now,
         s.signer,
     );
@@ -192,7 +149,7 @@ pub fn accept(
     receipts: &mut [u64],
     s: Submission,
 ) -> u64
-    requires { ⌜ (1 ≤ s .target) × Accepts edition (now header) (now wallets) (now escrows) (now receipts) (s .now) (s .target - 1) ⌝ }
+    requires { ⌜ Names (s .target) × Accepts edition (now header) (now wallets) (now escrows) (now receipts) (s .now) (s .target - 1) ⌝ }
     ensures { λ x. ⌜ ((K : Ledger) → let L = any K of-edition edition with-header header with-wallets wallets with-escrows escrows with-receipts receipts in done x (L .exit) ≡ accept s (L .entry)) ⌝ }
 {
     let number = ReceiptNumber(s.target);
@@ -210,7 +167,7 @@ pub fn accept(
 
 // Dispute closes the receipt as disputed and moves no credits.
 pub fn dispute(receipts: &mut [u64], s: Submission) -> u64
-    requires { ⌜ (1 ≤ s .target) × (s .target ≤ MAX-RECEIPTS) ⌝ }
+    requires { ⌜ Names (s .target) ⌝ }
     ensures { λ x. ⌜ ((K : Ledger) → let L = any K with-receipts receipts in done x (L .exit) ≡ dispute s (L .entry)) ⌝ }
 {
     let number = ReceiptNumber(s.target);
@@ -228,8 +185,8 @@ pub fn freeze(header: &mut [u64], wallets: &mut [u64], s: Submission) -> u64
         header[SYSTEM_FROZEN] = frozen;
         return 0;
     }
-    let row = rows::find_row(wallets, header[WALLETS] as usize, s.target);
-    rows::set(wallets, WALLET_LEN, row, FROZEN, frozen);
+    let target = numbered::find_wallet(wallets, header[WALLETS] as usize, s.target);
+    numbered::set_wallet(wallets, target, FROZEN, frozen);
     0
 }
 
@@ -238,8 +195,8 @@ pub fn caps(header: &[u64], wallets: &mut [u64], s: Submission) -> u64
     requires { ⌜ Counted (now header) (now wallets) ⌝ }
     ensures { λ x. ⌜ ((K : Ledger) → let L = any K with-header header with-wallets wallets in done x (L .exit) ≡ caps s (L .entry)) ⌝ }
 {
-    let row = rows::find_row(wallets, header[WALLETS] as usize, s.target);
-    rows::set(wallets, WALLET_LEN, row, TX_CAP, s.amount);
-    rows::set(wallets, WALLET_LEN, row, DAILY_CAP, s.link);
+    let target = numbered::find_wallet(wallets, header[WALLETS] as usize, s.target);
+    numbered::set_wallet(wallets, target, TX_CAP, s.amount);
+    numbered::set_wallet(wallets, target, DAILY_CAP, s.link);
     0
 }

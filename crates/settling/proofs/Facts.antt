@@ -3,29 +3,35 @@
 use mathlib.Core.Path.{_≡_, ap, _∙_}
 use mathlib.Core.List.{List, [], _∷_}
 use mathlib.Core.Bool.{true}
-use Prim.Native.Nat.{ℕ, _-_, _≤_}
+use Prim.Native.Nat.{ℕ, _-_, _≤_, _^_}
+use native.Mathlib.Nat.{le-trans}
 use native.Mathlib.Omega.{arith}
 use lib.ListN.{getD}
 use borrow.Author.Tests.{le-ltb}
-use Rattle.rules.specs.Limits.{MAX-RECEIPTS, MAX-ENTRIES, ENTRIES}
-use Rattle.rules.specs.Limits.{GRANT, TRANSFER, OPEN, RELEASE, REFUND, ACCEPT, DISPUTE}
-use Rattle.rules.specs.Ledger.{Ledger, ledgerOf, walletRow}
+use Rattle.rules.specs.Limits.{MAX-ENTRIES, ENTRIES}
+use Rattle.rules.specs.Limits.{GRANT, TRANSFER, OPEN, ACCEPT, DISPUTE}
+use Rattle.rules.specs.Ledger.{Ledger, ledgerOf, walletRow, written}
 use Rattle.rules.specs.Refusals.{entryRefusals, oneOf, paying, closing}
 use Rattle.rules.specs.Submit.{answerOf}
 use Rattle.rules.specs.declared.Edition.{Edition}
 use Rattle.rules.specs.declared.Submission.{Submission}
 use Rattle.rules.specs.declared.Read.{Read}
-use Rattle.rules.proofs.Tests.{written-low, header-wide, Few, counts-few, sound-says}
+use Rattle.rules.proofs.Tests.{written-low, written-high, header-wide, Few, counts-few, sound-says}
 use Rattle.rules.proofs.Formed.{Formed, formed-says}
 use Rattle.rules.proofs.Refused.{entry-pass}
 use Rattle.rules.proofs.Passed.{amount-high, sender-row, sender-has, escrow-written, escrow-row, escrow-open, receipt-written, receipt-row}
 use Rattle.rules.proofs.Passed.{grant-within, wallet-place}
 use Rattle.rules.proofs.Good.{Good, good-of, balance-most, locked-most}
+use Rattle.rows.specs.Numbered.{Names}
 use Rattle.moves.specs.Needs.{Small, Counted, Ends, Accepts}
 use Rattle.moves.proofs.Bounds.{counted-of, ends-of, accepts-of}
 use Rattle.operations.specs.Needs.{Receiving, Granting, Paying, Opening, Claiming}
 use Rattle.sweeping.specs.Needs.{Sweeping}
 use Rattle.settling.specs.Needs.{Settles}
+
+-- a number of a written row names it, where the count is small
+written-named : (n k : ℕ) → written n k ≡ true → n ≤ 2 ^ 32 → Names k
+written-named n k x small = record { low = written-low n k x; high = le-trans (written-high n k x) small }
 
 module _ (ed : Edition) (h w e r j : List ℕ) (s : Submission) (p : Settles (ledgerOf ed h w e r j) s) where
   abbrev L : Ledger
@@ -88,28 +94,27 @@ module _ (ed : Edition) (h w e r j : List ℕ) (s : Submission) (p : Settles (le
   }
 
   -- 4 and 5
-  ending : oneOf closing (s .op) ≡ true → (1 ≤ s .target) × Ends ed h w e (s .target - 1)
-  ending t = (written-low _ _ (escrow-written L read answered t), ends-of ed (p .sized .small) h w e r small good (s .target - 1) (escrow-row L read answered t) (escrow-open L read answered t))
-
-  pub releasing : s .op ≡ RELEASE → (1 ≤ s .target) × Ends ed h w e (s .target - 1)
-  releasing o = ending (ap (oneOf closing) o)
-
-  pub refunding : s .op ≡ REFUND → (1 ≤ s .target) × Ends ed h w e (s .target - 1)
-  refunding o = ending (ap (oneOf closing) o)
+  pub ending : oneOf closing (s .op) ≡ true → Names (s .target) × Ends ed h w e (s .target - 1)
+  ending t = (
+    written-named _ _ (escrow-written L read answered t) (omega (arith, small .escrows)),
+    ends-of ed (p .sized .small) h w e r small good (s .target - 1) (escrow-row L read answered t) (escrow-open L read answered t),
+  )
 
   -- 6
   pub claiming : Claiming h
   claiming = record { whole = small .whole; receipts = small .receipts }
 
   -- 7 and 8
-  pub accepting : s .op ≡ ACCEPT → (1 ≤ s .target) × Accepts ed h w e r (s .now) (s .target - 1)
-  accepting o = (written-low _ _ (receipt-written L read answered (ap (oneOf (ACCEPT ∷ DISPUTE ∷ [])) o)), accepts-of ed (p .sized .small) h w e r small good (s .now) (s .target - 1) (receipt-row L read answered (ap (oneOf (ACCEPT ∷ DISPUTE ∷ [])) o)))
+  receipt-named : oneOf (ACCEPT ∷ DISPUTE ∷ []) (s .op) ≡ true → Names (s .target)
+  receipt-named t = written-named _ _ (receipt-written L read answered t) (omega (arith, small .receipts))
 
-  pub disputing : s .op ≡ DISPUTE → (1 ≤ s .target) × (s .target ≤ MAX-RECEIPTS)
-  disputing o = (
-    written-low _ _ (receipt-written L read answered (ap (oneOf (ACCEPT ∷ DISPUTE ∷ [])) o)),
-    omega (arith, small .receipts, receipt-row L read answered (ap (oneOf (ACCEPT ∷ DISPUTE ∷ [])) o)),
-  )
+  pub accepting : s .op ≡ ACCEPT → Names (s .target) × Accepts ed h w e r (s .now) (s .target - 1)
+  accepting o =
+      let t = ap (oneOf (ACCEPT ∷ DISPUTE ∷ [])) o in
+      (receipt-named t, accepts-of ed (p .sized .small) h w e r small good (s .now) (s .target - 1) (receipt-row L read answered t))
+
+  pub disputing : s .op ≡ DISPUTE → Names (s .target)
+  disputing o = receipt-named (ap (oneOf (ACCEPT ∷ DISPUTE ∷ [])) o)
 
   -- 9
   pub swept : Sweeping ed h w e r (s .now)

@@ -12,7 +12,9 @@ use rules::limits::GRANT;
 use rules::limits::JOURNAL_LEN;
 use rules::limits::OPEN;
 use rules::limits::REFUND;
+use rules::limits::REFUNDED;
 use rules::limits::RELEASE;
+use rules::limits::RELEASED;
 use rules::limits::SWEEP;
 use rules::limits::TRANSFER;
 ghost use mathlib.Core.Path.{_≡_};
@@ -41,8 +43,8 @@ fn operate(
         GRANT => operations::grant(header, wallets, s),
         TRANSFER => operations::transfer(header, wallets, s),
         OPEN => operations::open_escrow(edition, header, wallets, escrows, s),
-        RELEASE => operations::release(edition, header, wallets, escrows, s),
-        REFUND => operations::refund(edition, header, wallets, escrows, s),
+        RELEASE => operations::close_escrow(edition, header, wallets, escrows, s, RELEASED),
+        REFUND => operations::close_escrow(edition, header, wallets, escrows, s, REFUNDED),
         CLAIM => operations::claim(header, receipts, s),
         ACCEPT => operations::accept(edition, header, wallets, escrows, receipts, s),
         DISPUTE => operations::dispute(receipts, s),

@@ -1,36 +1,23 @@
 -- The loop over the escrows, as that over the receipts, and the whole sweep.
 use mathlib.Core.Path.{_≡_, refl, sym, ap, ap₂, _∙_, subst}
 use mathlib.Core.List.{List, []}
-use mathlib.Core.Bool.{Bool, true, _&&_}
 use Prim.Native.Nat.{ℕ, _+_, _-_, _<_, _≤_, min}
 use native.Mathlib.Omega.{arith}
 use lib.ListN.{length, getD}
-use lib.Dec.{eqb, ltb}
-use Rattle.rules.specs.Limits.{ESCROWS, ESCROW-STATE, ESCROW-DEADLINE, IS-OPEN}
-use Rattle.rules.specs.Table.{word, loop}
+use Rattle.rules.specs.Limits.{ESCROWS}
+use Rattle.rules.specs.Table.{loop}
 use Rattle.rules.specs.Ledger.{Ledger, ledgerOf}
 use Rattle.rules.specs.declared.Edition.{Edition}
 use Rattle.rules.specs.Settle.{Sweep, sweepEscrow, sweptReceipts, swept, done}
 use Rattle.rules.specs.Due.{due}
-use Rattle.rules.proofs.Bools.{and-fst}
 use Rattle.rules.proofs.Good.{Good}
 use Rattle.rules.proofs.Stays.{Kept, kept-start, escrow-turn, loop-keeps}
 use Rattle.rules.proofs.SweepPlan.{sweep-counts}
 use Rattle.rules.proofs.UpTo.{upToEscrows, upToReceipts}
-use Rattle.moves.specs.Needs.{Ends}
+use Rattle.rows.specs.Numbered.{Names}
 use Rattle.moves.proofs.Bounds.{ends-of}
 use Rattle.sweeping.specs.Needs.{underWay, Expires, Expiring}
 use Rattle.sweeping.proofs.Turns.{loop-none, loop-next, loop-full, escrow-full}
-
--- an escrow that is due can end
-pub can-end :
-    (ed : Edition) (h w e : List ℕ) (time i : ℕ) (b : Bool)
-    → (1 ≤ i) × Expires ed h w e (i - 1)
-    → b ≡ (eqb (word e (ed .escrow) (i - 1) ESCROW-STATE) IS-OPEN && ltb (word e (ed .escrow) (i - 1) ESCROW-DEADLINE) time)
-    → b ≡ true
-    → (1 ≤ i) × Ends ed h w e (i - 1)
-can-end ed h w e time i b p x t =
-    (p .0, p .1 .ends (and-fst _ (ltb (word e (ed .escrow) (i - 1) ESCROW-DEADLINE) time) (sym x ∙ t)))
 
 -- after `number` escrows, of which `closed` were closed, behind any count of receipts
 pub record SoFar (ed : Edition) (h w₀ e₀ : List ℕ) (time limit closed number : ℕ) (w e : List ℕ) : Type 0 where
@@ -85,13 +72,12 @@ module _ (ed : Edition) (h w₀ e₀ : List ℕ) (time limit closed number : ℕ
       (loop-keeps (λ (t : Sweep). Kept L (t .tables)) number (sweepEscrow time)
       (λ i l. escrow-turn L time (x .sweeping .now) i (omega (arith, far .rows))) (underWay limit 0 L) (kept-start L (x .sweeping .good))) .good
 
-  pub can-expire : Expiring ed h w₀ e₀ time → number < getD h ESCROWS 0 → (1 ≤ number + 1) × Expires ed h w e (number + 1 - 1)
+  pub can-expire : Expiring ed h w₀ e₀ time → number < getD h ESCROWS 0 → Names (number + 1) × Expires ed h w e (number + 1 - 1)
   can-expire x l =
       let i : number + 1 - 1 ≡ number = omega arith in (
-        omega arith,
+        record { low = omega arith; high = omega (arith, x .sweeping .small .escrows) },
         subst (Expires ed h w e) (sym i) (record {
           len = x .sweeping .len;
-          row = omega (arith, x .sweeping .small .escrows);
           ends = ends-of ed (x .sweeping .len) h w e (x .receipts) (x .sweeping .small) (good-so-far x) number l;
         }),
       )

@@ -14,6 +14,7 @@ use Rattle.rules.specs.Settle.{Sweep, sweepReceipt, sweptReceipts}
 use Rattle.rules.proofs.Good.{Good}
 use Rattle.rules.proofs.Stays.{Kept, receipts-swept}
 use Rattle.rules.proofs.UpTo.{upToReceipts}
+use Rattle.rows.specs.Numbered.{Names}
 use Rattle.moves.specs.Needs.{Accepts}
 use Rattle.moves.proofs.Bounds.{accepts-of}
 use Rattle.sweeping.specs.Needs.{underWay, Sweeping, Expiring}
@@ -72,10 +73,12 @@ module _ (ed : Edition) (h w₀ e₀ r₀ : List ℕ) (time limit closed number 
       subst (λ (t : Sweep). Kept (ledgerOf ed h w₀ e₀ r₀ []) (t .tables)) (sym (far .far (ledgerOf ed h w e r [])))
       (receipts-swept (ledgerOf ed h w₀ e₀ r₀ []) time (s .now) (s .good) limit number (far .rows)) .good
 
-  pub can-accept : Sweeping ed h w₀ e₀ r₀ time → number < getD h RECEIPTS 0 → (1 ≤ number + 1) × Accepts ed h w e r time (number + 1 - 1)
+  pub can-accept : Sweeping ed h w₀ e₀ r₀ time → number < getD h RECEIPTS 0 → Names (number + 1) × Accepts ed h w e r time (number + 1 - 1)
   can-accept s l =
-      let i : number + 1 - 1 ≡ number = omega arith in
-      (omega arith, subst (Accepts ed h w e r time) (sym i) (accepts-of ed (s .len) h w e r (s .small) (good-so-far s) time number l))
+      let i : number + 1 - 1 ≡ number = omega arith in (
+        record { low = omega arith; high = omega (arith, s .small .receipts) },
+        subst (Accepts ed h w e r time) (sym i) (accepts-of ed (s .len) h w e r (s .small) (good-so-far s) time number l),
+      )
 
   -- no receipt is left, or no room
   pub ended :

@@ -13,10 +13,12 @@ use Rattle.rules.specs.Limits.{RECEIPT-LEN, AUTO-ACCEPT, LAPSED, RECEIPT-STATE,
 use Rattle.rules.specs.Table.{word, loop}
 use Rattle.rules.specs.Ledger.{Ledger, setReceipts}
 use Rattle.rules.specs.declared.Edition.{Edition}
-use Rattle.rules.specs.Settle.{Sweep, done, Done, acceptRow, closeReceipt, endEscrow, closeDueReceipt, closeDueEscrow, sweepReceipt, sweepEscrow}
+use Rattle.rules.specs.Settle.{Sweep, done, Done, acceptRow, closeReceipt, endEscrow, dueReceipt, dueEscrow, closeDueReceipt, closeDueEscrow, sweepReceipt, sweepEscrow}
+use Rattle.rules.proofs.Bools.{and-fst}
 use Rattle.rules.proofs.Turns.{turn}
 use Rattle.rules.proofs.UpTo.{upToEscrows, upToReceipts}
-use Rattle.sweeping.specs.Needs.{underWay}
+use Rattle.moves.specs.Needs.{Ends}
+use Rattle.sweeping.specs.Needs.{underWay, Expires}
 
 -- a due receipt is accepted, or expires
 pub due-accepted :
@@ -51,8 +53,12 @@ passed-over due close L i room closed d l =
     let c : closed + 0 ≡ closed = omega arith in
     rw (lt-ltb 0 room l, d, r, c)
 
-module _ (ed : Edition) (h w e r : List ℕ) (time i : ℕ) (b : Bool)
-    (x : b ≡ (eqb (word r RECEIPT-LEN i RECEIPT-STATE) PENDING && ltb (word r RECEIPT-LEN i ACCEPTANCE-DEADLINE) time)) where
+module _ (ed : Edition) (h w e r : List ℕ) (time i state deadline : ℕ) (b : Bool)
+    (p : state ≡ word r RECEIPT-LEN i RECEIPT-STATE) (d : deadline ≡ word r RECEIPT-LEN i ACCEPTANCE-DEADLINE)
+    (x : b ≡ (eqb state PENDING && ltb deadline time)) where
+  receipt-test : b ≡ (eqb (word r RECEIPT-LEN i RECEIPT-STATE) PENDING && ltb (word r RECEIPT-LEN i ACCEPTANCE-DEADLINE) time)
+  receipt-test = rw (← p, ← d) x
+
   pub receipt-closed :
       (w₁ e₁ r₁ : List ℕ)
       → b ≡ true
@@ -61,19 +67,25 @@ module _ (ed : Edition) (h w e r : List ℕ) (time i : ℕ) (b : Bool)
       → underWay (room - 1) (closed + 1) (upToReceipts K ed h w₁ e₁ r₁) ≡ sweepReceipt time i (underWay room closed (upToReceipts K ed h w e r))
   unfolding sweepReceipt
   receipt-closed w₁ e₁ r₁ t q K room closed l =
-      turned (λ L k. eqb (word (L .receipts) RECEIPT-LEN k RECEIPT-STATE) PENDING && ltb (word (L .receipts) RECEIPT-LEN k ACCEPTANCE-DEADLINE) time) (closeDueReceipt time)
-      (upToReceipts K ed h w e r) (upToReceipts K ed h w₁ e₁ r₁) i room closed (sym x ∙ t) (q K) l
+      turned (λ L k. dueReceipt L time k) (closeDueReceipt time) (upToReceipts K ed h w e r) (upToReceipts K ed h w₁ e₁ r₁) i room closed (sym receipt-test ∙ t) (q K) l
 
   pub receipt-passed :
       b ≡ false → (K : Ledger) (room closed : ℕ) → 0 < room
       → underWay (room - 0) (closed + 0) (upToReceipts K ed h w e r) ≡ sweepReceipt time i (underWay room closed (upToReceipts K ed h w e r))
   unfolding sweepReceipt
   receipt-passed t K room closed l =
-      passed-over (λ L k. eqb (word (L .receipts) RECEIPT-LEN k RECEIPT-STATE) PENDING && ltb (word (L .receipts) RECEIPT-LEN k ACCEPTANCE-DEADLINE) time) (closeDueReceipt time)
-      (upToReceipts K ed h w e r) i room closed (sym x ∙ t) l
+      passed-over (λ L k. dueReceipt L time k) (closeDueReceipt time) (upToReceipts K ed h w e r) i room closed (sym receipt-test ∙ t) l
 
-module _ (ed : Edition) (h w e : List ℕ) (time i : ℕ) (b : Bool)
-    (x : b ≡ (eqb (word e (ed .escrow) i ESCROW-STATE) IS-OPEN && ltb (word e (ed .escrow) i ESCROW-DEADLINE) time)) where
+module _ (ed : Edition) (h w e : List ℕ) (time i state deadline : ℕ) (b : Bool)
+    (p : state ≡ word e (ed .escrow) i ESCROW-STATE) (d : deadline ≡ word e (ed .escrow) i ESCROW-DEADLINE)
+    (x : b ≡ (eqb state IS-OPEN && ltb deadline time)) where
+  escrow-test : b ≡ (eqb (word e (ed .escrow) i ESCROW-STATE) IS-OPEN && ltb (word e (ed .escrow) i ESCROW-DEADLINE) time)
+  escrow-test = rw (← p, ← d) x
+
+  -- an escrow that is due can end
+  pub can-end : Expires ed h w e i → b ≡ true → Ends ed h w e i
+  can-end can t = can .ends (and-fst _ (ltb (word e (ed .escrow) i ESCROW-DEADLINE) time) (sym escrow-test ∙ t))
+
   pub escrow-closed :
       (w₁ e₁ : List ℕ)
       → b ≡ true
@@ -82,16 +94,14 @@ module _ (ed : Edition) (h w e : List ℕ) (time i : ℕ) (b : Bool)
       → underWay (room - 1) (closed + 1) (upToEscrows K ed h w₁ e₁) ≡ sweepEscrow time i (underWay room closed (upToEscrows K ed h w e))
   unfolding sweepEscrow closeDueEscrow
   escrow-closed w₁ e₁ t q K room closed l =
-      turned (λ L k. eqb (word (L .escrows) (L .edition .escrow) k ESCROW-STATE) IS-OPEN && ltb (word (L .escrows) (L .edition .escrow) k ESCROW-DEADLINE) time) (endEscrow EXPIRED time 0)
-      (upToEscrows K ed h w e) (upToEscrows K ed h w₁ e₁) i room closed (sym x ∙ t) (q K) l
+      turned (λ L k. dueEscrow L time k) (endEscrow EXPIRED time 0) (upToEscrows K ed h w e) (upToEscrows K ed h w₁ e₁) i room closed (sym escrow-test ∙ t) (q K) l
 
   pub escrow-passed :
       b ≡ false → (K : Ledger) (room closed : ℕ) → 0 < room
       → underWay (room - 0) (closed + 0) (upToEscrows K ed h w e) ≡ sweepEscrow time i (underWay room closed (upToEscrows K ed h w e))
   unfolding sweepEscrow
   escrow-passed t K room closed l =
-      passed-over (λ L k. eqb (word (L .escrows) (L .edition .escrow) k ESCROW-STATE) IS-OPEN && ltb (word (L .escrows) (L .edition .escrow) k ESCROW-DEADLINE) time) (closeDueEscrow time)
-      (upToEscrows K ed h w e) i room closed (sym x ∙ t) l
+      passed-over (λ L k. dueEscrow L time k) (closeDueEscrow time) (upToEscrows K ed h w e) i room closed (sym escrow-test ∙ t) l
 
 -- ---- a loop of turns
 

@@ -4,7 +4,7 @@ use mathlib.Core.List.{List, []}
 use mathlib.Core.Bool.{true}
 use Prim.Native.Nat.{ℕ, _<_, _≤_, _^_}
 use lib.Dec.{eqb}
-use Rattle.rules.specs.Limits.{MAX-ESCROWS, LAST-TIME-MS, ESCROW-STATE, IS-OPEN}
+use Rattle.rules.specs.Limits.{LAST-TIME-MS, ESCROW-STATE, IS-OPEN}
 use Rattle.rules.specs.Table.{word}
 use Rattle.rules.specs.Ledger.{Ledger, ledgerOf}
 use Rattle.rules.specs.declared.Edition.{Edition}
@@ -19,7 +19,6 @@ underWay room closed L = record { room = room; closed = closed; tables = L }
 -- the escrow in row i can end if it is open
 pub record Expires (ed : Edition) (header wallets escrows : List ℕ) (i : ℕ) : Type 0 where
   pub len : ed .escrow < 2 ^ 16
-  pub row : i < MAX-ESCROWS
   pub ends : eqb (word escrows (ed .escrow) i ESCROW-STATE) IS-OPEN ≡ true → Ends ed header wallets escrows i
 
 pub record Sweeping (ed : Edition) (header wallets escrows receipts : List ℕ) (time : ℕ) : Type 0 where

@@ -1,4 +1,5 @@
 // The sweep: due receipts in row order first, then due escrows in row order, until its limit. Its word counts the rows that it closed.
+use rows::numbered;
 use rules::Edition;
 use rules::EscrowNumber;
 use rules::ReceiptNumber;
@@ -11,42 +12,31 @@ use rules::limits::EXPIRED;
 use rules::limits::IS_OPEN;
 use rules::limits::LAPSED;
 use rules::limits::PENDING;
-use rules::limits::RECEIPT_LEN;
 use rules::limits::RECEIPT_STATE;
 use rules::limits::RECEIPTS;
 ghost use mathlib.Core.Path.{_≡_};
 ghost use mathlib.Core.Bool.{_&&_};
-ghost use Prim.Native.Nat.{ℕ, _+_, _-_, _<_, _≤_, _^_, min};
+ghost use Prim.Native.Nat.{ℕ, _+_, _-_, _<_, _≤_, min};
 ghost use lib.ListN.{getD};
 ghost use lib.Dec.{eqb, ltb};
 ghost use Rattle.rules.specs.Limits.{ESCROWS};
-ghost use Rattle.rules.specs.Table.{word, loop};
+ghost use Rattle.rules.specs.Table.{loop};
 ghost use Rattle.rules.specs.Ledger.{Ledger};
 ghost use Rattle.rules.specs.Moments.{any, _of-edition_, _with-header_, _with-wallets_, _with-escrows_, _with-receipts_};
 ghost use Rattle.rules.specs.Settle.{done, closeDueReceipt, sweepReceipt, sweepEscrow, sweptReceipts, swept};
 ghost use Rattle.rules.specs.Due.{due};
+ghost use Rattle.rows.specs.Numbered.{Names};
 ghost use Rattle.moves.specs.Needs.{Accepts};
 ghost use Rattle.sweeping.specs.Needs.{underWay, Expires, Sweeping, Expiring};
 
 // The signer of what a sweep closes.
 const NOBODY: u64 = 0;
 
-// Whether a row is due: it is still waiting, and its deadline is before now. One test for receipts and escrows, over the row length.
-fn is_due(
-    t: &[u64],
-    len: usize,
-    row: usize,
-    state: usize,
-    waiting: u64,
-    deadline: usize,
-    time: u64,
-) -> bool
-    requires { ⌜ (row < 2 ^ 32) × (len < 2 ^ 16) × (state < 2 ^ 16) × (deadline < 2 ^ 16) ⌝ }
-    ensures { λ x. ⌜ x ≡ (eqb (word (now (t .entry)) len row state) waiting && ltb (word (now (t .entry)) len row deadline) time) ⌝ }
+// Whether a row is due: it is still waiting, and its deadline is before now. One test for receipts and escrows, over their words.
+fn is_due(state: u64, waiting: u64, deadline: u64, time: u64) -> bool
+    ensures { λ x. ⌜ x ≡ (eqb state waiting && ltb deadline time) ⌝ }
 {
-    let is = rows::get(t, len, row, state);
-    let until = rows::get(t, len, row, deadline);
-    (is == waiting) & (until < time)
+    (state == waiting) & (deadline < time)
 }
 
 // An auto-accept receipt is accepted, any other expires.
@@ -59,10 +49,10 @@ fn close_due_receipt(
     number: ReceiptNumber,
     time: u64,
 )
-    requires { ⌜ (1 ≤ number .0) × Accepts edition (now header) (now wallets) (now escrows) (now receipts) time (number .0 - 1) ⌝ }
+    requires { ⌜ Names (number .0) × Accepts edition (now header) (now wallets) (now escrows) (now receipts) time (number .0 - 1) ⌝ }
     ensures { λ x. ⌜ ((K : Ledger) → let L = any K of-edition edition with-header header with-wallets wallets with-escrows escrows with-receipts receipts in L .exit ≡ closeDueReceipt time (number .0 - 1) (L .entry)) ⌝ }
 {
-    let auto = rows::get(receipts, RECEIPT_LEN, (number.0 - 1) as usize, AUTO_ACCEPT);
+    let auto = numbered::receipt(receipts, number, AUTO_ACCEPT);
     if auto == 1 {
         moves::accept_receipt(
             edition,
@@ -89,19 +79,12 @@ fn sweep_receipt(
     number: ReceiptNumber,
     time: u64,
 ) -> u64
-    requires { ⌜ (1 ≤ number .0) × Accepts edition (now header) (now wallets) (now escrows) (now receipts) time (number .0 - 1) ⌝ }
+    requires { ⌜ Names (number .0) × Accepts edition (now header) (now wallets) (now escrows) (now receipts) time (number .0 - 1) ⌝ }
     ensures { λ x. ⌜ (x ≤ 1) × ((K : Ledger) (room closed : ℕ) → let L = any K of-edition edition with-header header with-wallets wallets with-escrows escrows with-receipts receipts in 0 < room → underWay (room - x) (closed + x) (L .exit) ≡ sweepReceipt time (number .0 - 1) (underWay room closed (L .entry))) ⌝ }
 {
-    let row = (number.0 - 1) as usize;
-    if is_due(
-        receipts,
-        RECEIPT_LEN,
-        row,
-        RECEIPT_STATE,
-        PENDING,
-        ACCEPTANCE_DEADLINE,
-        time,
-    ) {
+    let state = numbered::receipt(receipts, number, RECEIPT_STATE);
+    let deadline = numbered::receipt(receipts, number, ACCEPTANCE_DEADLINE);
+    if is_due(state, PENDING, deadline, time) {
         close_due_receipt(edition, header, wallets, escrows, receipts, number, time);
         return 1;
     }
@@ -117,19 +100,12 @@ fn sweep_escrow(
     number: EscrowNumber,
     time: u64,
 ) -> u64
-    requires { ⌜ (1 ≤ number .0) × Expires edition (now header) (now wallets) (now escrows) (number .0 - 1) ⌝ }
+    requires { ⌜ Names (number .0) × Expires edition (now header) (now wallets) (now escrows) (number .0 - 1) ⌝ }
     ensures { λ x. ⌜ (x ≤ 1) × ((K : Ledger) (room closed : ℕ) → let L = any K of-edition edition with-header header with-wallets wallets with-escrows escrows in 0 < room → underWay (room - x) (closed + x) (L .exit) ≡ sweepEscrow time (number .0 - 1) (underWay room closed (L .entry))) ⌝ }
 {
-    let row = (number.0 - 1) as usize;
-    if is_due(
-        escrows,
-        edition.escrow,
-        row,
-        ESCROW_STATE,
-        IS_OPEN,
-        ESCROW_DEADLINE,
-        time,
-    ) {
+    let state = numbered::escrow(edition, escrows, number, ESCROW_STATE);
+    let deadline = numbered::escrow(edition, escrows, number, ESCROW_DEADLINE);
+    if is_due(state, IS_OPEN, deadline, time) {
         moves::end_escrow(
             edition,
             header,
@@ -160,24 +136,16 @@ fn sweep_receipts(
 {
     let written = header[RECEIPTS];
     let mut closed = 0;
-    let mut number = 0;
+    let mut number = ReceiptNumber(0);
     loop {
-        if written <= number {
+        if written <= number.0 {
             break closed;
         }
         if limit <= closed {
             break closed;
         }
-        number += 1;
-        closed += sweep_receipt(
-            edition,
-            header,
-            wallets,
-            escrows,
-            receipts,
-            ReceiptNumber(number),
-            time,
-        );
+        number.0 += 1;
+        closed += sweep_receipt(edition, header, wallets, escrows, receipts, number, time);
     }
 }
 
@@ -195,23 +163,16 @@ fn sweep_escrows(
 {
     let written = header[ESCROWS];
     let mut closed = 0;
-    let mut number = 0;
+    let mut number = EscrowNumber(0);
     loop {
-        if written <= number {
+        if written <= number.0 {
             break closed;
         }
         if limit <= closed {
             break closed;
         }
-        number += 1;
-        closed += sweep_escrow(
-            edition,
-            header,
-            wallets,
-            escrows,
-            EscrowNumber(number),
-            time,
-        );
+        number.0 += 1;
+        closed += sweep_escrow(edition, header, wallets, escrows, number, time);
     }
 }
 

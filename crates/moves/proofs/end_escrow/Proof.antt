@@ -1,38 +1,37 @@
 -- `moves::end_escrow` meets its contract: what is read of the escrow first, then the escrow closed and the credits moved.
-use Rattle.moves.proofs.Ends.{can-lower, can-raise, ended}
+use Rattle.moves.proofs.Ends.{can-move, ended}
 use borrow.Author.Needs.{needs}
 use Rattle.moves.proofs.end_escrow.Statement.{statement}
 use Rattle.moves.proofs.end_escrow.Tie as tie
 
-sub-row : tie.Need-sub-row
-sub-row c = search needs
+escrow-requires : tie.Need-escrow-requires
+escrow-requires c κs = search needs
 
-get-requires : tie.Need-get-requires
-get-requires c κs = search needs
+escrow-requires-2 : tie.Need-escrow-requires-2
+escrow-requires-2 c κs = search needs
 
-get-requires-2 : tie.Need-get-requires-2
-get-requires-2 c κs = search needs
-
-get-requires-3 : tie.Need-get-requires-3
-get-requires-3 c κs = search needs
+escrow-requires-3 : tie.Need-escrow-requires-3
+escrow-requires-3 c κs = search needs
 
 shared-slice-read-written : tie.Need-shared-slice-read-written
 shared-slice-read-written c = search needs
 
-find-row-requires : tie.Need-find-row-requires
-find-row-requires c κs = search needs
+find-wallet-requires : tie.Need-find-wallet-requires
+find-wallet-requires c κs = search needs
 
-payee-row-requires : tie.Need-payee-row-requires
-payee-row-requires c κs = search needs
+payee-requires : tie.Need-payee-requires
+payee-requires c κs = search needs
 
 close-escrow-requires : tie.Need-close-escrow-requires
 close-escrow-requires c κs = search needs
 
-lower-requires : tie.Need-lower-requires
-lower-requires c κs = can-lower _ _ _ _ _ _ _ _ _ _ (c .before .before .before .before .before .before .before .before .before .before .before .before .before .before .before .before .before .before .before .before .args .state) (c .before .before .before .before .before .before .before .before .before .before .before .before .before .before .before .before .before .before .before .before .pre .1) (c .before .before .before .before .before .before .before .before .before .before .before .before .before .before .get .ensures) (c .before .before .before .before .before .before .before .before .before .before .before .before .get2 .ensures) (c .before .before .before .before .before .before .before .before .before .before .get3 .ensures) (c .before .before .before .before .before .before .before .find-row .ensures) (c .before .before .before .before .before .payee-row .ensures)
-
-raise-requires : tie.Need-raise-requires
-raise-requires c κs = can-raise _ _ _ _ _ _ _ _ _ _ (c .before .before .before .before .before .before .before .before .before .before .before .before .before .before .before .before .before .before .before .before .before .before .before .before .args .state) (c .before .before .before .before .before .before .before .before .before .before .before .before .before .before .before .before .before .before .before .before .before .before .before .before .pre .1) (c .before .before .before .before .before .before .before .before .before .before .before .before .before .before .before .before .before .before .get .ensures) (c .before .before .before .before .before .before .before .before .before .before .before .before .before .before .before .before .get2 .ensures) (c .before .before .before .before .before .before .before .before .before .before .before .before .before .before .get3 .ensures) (c .before .before .before .before .before .before .before .before .before .before .before .find-row .ensures) (c .before .before .before .before .before .before .before .before .before .payee-row .ensures) _ (c .before .before .before .lower .ensures)
+move-credits-requires : tie.Need-move-credits-requires
+move-credits-requires c κs =
+    let to = c .before .before .before .before .before in
+    let from = to .before .before in
+    let amount = from .before .before .before in
+    let read = amount .before .before .before .before in
+    can-move _ _ _ _ _ _ _ _ _ _ (read .before .before .before .before .before .args .state) (read .escrow .ensures) (amount .before .before .escrow2 .ensures) (amount .escrow3 .ensures) (from .find-wallet .ensures) (to .payee .ensures) (read .before .before .before .before .before .pre .1)
 
 same-length : tie.Need-same-length
 same-length c = search needs
@@ -41,22 +40,27 @@ same-length-2 : tie.Need-same-length-2
 same-length-2 c = search needs
 
 returns : tie.Need-returns
-returns c = λ K. ended K _ _ _ _ _ _ _ _ _ _ _ _ _ _ _ _ (c .before .before .before .before .before .before .before .before .before .before .before .before .before .before .before .before .before .before .before .before .before .get .ensures) (c .before .before .before .before .before .before .before .before .before .before .before .before .before .before .before .before .before .before .before .get2 .ensures) (c .before .before .before .before .before .before .before .before .before .before .before .before .before .before .before .before .before .get3 .ensures) (c .before .before .before .before .before .before .before .before .before .before .before .before .before .before .find-row .ensures) (c .before .before .before .before .before .before .before .before .before .before .before .before .payee-row .ensures) (c .before .before .before .before .before .before .before .before .before .before .close-escrow .ensures) (c .before .before .before .before .before .before .lower .ensures) (c .before .before .raise .ensures)
+returns c =
+    let moved = c .before .before in
+    let closed = moved .before .before .before .before in
+    let to = closed .before .before in
+    let from = to .before .before in
+    let amount = from .before .before .before in
+    let read = amount .before .before .before .before in
+    ended _ _ _ _ _ _ _ _ _ _ _ (read .escrow .ensures) (amount .before .before .escrow2 .ensures) (amount .escrow3 .ensures) (from .find-wallet .ensures) (to .payee .ensures) _ _ _ _ (closed .close-escrow .ensures) (moved .move-credits .ensures)
 
 pub end-escrow-spec : {M : Type 1} → statement M
 end-escrow-spec =
     tie.close
     (tie.spec
-    sub-row
-    get-requires
-    get-requires-2
-    get-requires-3
+    escrow-requires
+    escrow-requires-2
+    escrow-requires-3
     shared-slice-read-written
-    find-row-requires
-    payee-row-requires
+    find-wallet-requires
+    payee-requires
     close-escrow-requires
-    lower-requires
-    raise-requires
+    move-credits-requires
     same-length
     same-length-2
     returns)

@@ -5,31 +5,37 @@ use borrow.Author.Needs.{needs}
 use Rattle.operations.proofs.caps.Statement.{statement}
 use Rattle.operations.proofs.caps.Tie as tie
 
-shared-slice-read-find-row : tie.Need-shared-slice-read-find-row
-shared-slice-read-find-row c = search needs
+shared-slice-read-find-wallet : tie.Need-shared-slice-read-find-wallet
+shared-slice-read-find-wallet c = search needs
 
-find-row-requires : tie.Need-find-row-requires
-find-row-requires c κs = search needs
+find-wallet-requires : tie.Need-find-wallet-requires
+find-wallet-requires c κs = search needs
 
-set-requires : tie.Need-set-requires
-set-requires c κs = can-set _ _ _ _ _ (c .before .before .before .before .before .before .pre) (c .before .find-row .ensures) (lit< tt)
+set-wallet-requires : tie.Need-set-wallet-requires
+set-wallet-requires c κs =
+    let found = c .before in
+    can-set _ _ _ _ _ (found .before .before .before .before .before .pre) (found .find-wallet .ensures) (lit< tt)
 
-set-requires-2 : tie.Need-set-requires-2
-set-requires-2 c κs = can-set _ _ _ _ _ (c .before .before .before .before .before .before .before .before .before .before .pre) (c .before .before .before .before .before .find-row .ensures) (lit< tt)
+set-wallet-requires-2 : tie.Need-set-wallet-requires-2
+set-wallet-requires-2 c κs =
+    let found = c .before .before .before .before .before in
+    can-set _ _ _ _ _ (found .before .before .before .before .before .pre) (found .find-wallet .ensures) (lit< tt)
 
 same-length : tie.Need-same-length
 same-length c = search needs
 
 returns : tie.Need-returns
-returns c = λ K. capped K _ _ _ _ _ _ (c .before .before .before .before .before .before .before .before .find-row .ensures) (c .before .before .before .before .before .before .set .ensures) (c .before .before .set2 .ensures)
+returns c =
+    let first = c .before .before .before .before .before .before in
+    λ K. capped K _ _ _ _ _ _ (first .before .before .find-wallet .ensures) (first .set-wallet .ensures) (c .before .before .set-wallet2 .ensures)
 
 pub caps-spec : {M : Type 1} → statement M
 caps-spec =
     tie.close
     (tie.spec
-    shared-slice-read-find-row
-    find-row-requires
-    set-requires
-    set-requires-2
+    shared-slice-read-find-wallet
+    find-wallet-requires
+    set-wallet-requires
+    set-wallet-requires-2
     same-length
     returns)

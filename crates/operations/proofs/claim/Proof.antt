@@ -20,7 +20,9 @@ same-length-2 : tie.Need-same-length-2
 same-length-2 c = search needs
 
 returns : tie.Need-returns
-returns c = λ K. claimed K _ _ _ _ _ _ _ (c .before .before .before .before .before .before .before .before .auto-or-freeze .ensures) (c .before .before .before .before .append .ensures .0) (c .before .before .before .before .append .ensures .1) (c .before .before .before .before .append .ensures .2)
+returns c =
+    let added = c .before .before .before .before in
+    λ K. claimed K _ _ _ _ _ _ _ (added .before .before .before .before .auto-or-freeze .ensures) (added .append .ensures .0) (added .append .ensures .1) (added .append .ensures .2)
 
 pub claim-spec : {M : Type 1} → statement M
 claim-spec =

@@ -17,20 +17,24 @@ same-length c = search needs
 returns : tie.Need-returns
 returns c = λ K. system-frozen K _ _ _ _ (c .before .before .auto-or-freeze .ensures) (c .if1 .taken)
 
-slice-read-find-row : tie.Need-slice-read-find-row
-slice-read-find-row c = search needs
+slice-read-find-wallet : tie.Need-slice-read-find-wallet
+slice-read-find-wallet c = search needs
 
-find-row-requires : tie.Need-find-row-requires
-find-row-requires c κs = search needs
+find-wallet-requires : tie.Need-find-wallet-requires
+find-wallet-requires c κs = search needs
 
-set-requires : tie.Need-set-requires
-set-requires c κs = can-set _ _ _ _ _ (c .before .before .before .before .before .before .before .before .before .pre) (c .before .find-row .ensures) (lit< tt)
+set-wallet-requires : tie.Need-set-wallet-requires
+set-wallet-requires c κs =
+    let found = c .before in
+    can-set _ _ _ _ _ (found .before .before .before .before .before .before .before .before .pre) (found .find-wallet .ensures) (lit< tt)
 
 same-length-2 : tie.Need-same-length-2
 same-length-2 c = search needs
 
 returns-2 : tie.Need-returns-2
-returns-2 c = λ K. wallet-frozen K _ _ _ _ _ _ (c .before .before .before .before .before .before .before .before .before .auto-or-freeze .ensures) (c .before .before .before .before .before .before .before .if1 .left) (c .before .before .before .before .find-row .ensures) (c .before .before .set .ensures)
+returns-2 c =
+    let found = c .before .before .before .before in
+    λ K. wallet-frozen K _ _ _ _ _ _ (found .before .before .before .before .before .auto-or-freeze .ensures) (found .before .before .before .if1 .left) (found .find-wallet .ensures) (c .before .before .set-wallet .ensures)
 
 pub freeze-spec : {M : Type 1} → statement M
 freeze-spec =
@@ -40,8 +44,8 @@ freeze-spec =
     slice-write-header
     same-length
     returns
-    slice-read-find-row
-    find-row-requires
-    set-requires
+    slice-read-find-wallet
+    find-wallet-requires
+    set-wallet-requires
     same-length-2
     returns-2)

@@ -23,7 +23,9 @@ same-length-2 : tie.Need-same-length-2
 same-length-2 c = search needs
 
 returns-2 : tie.Need-returns-2
-returns-2 c = λ K. entered K _ _ _ _ _ _ (c .before .before .before .before .before .before .before .before .before .if1 .left) (c .before .before .before .before .append .ensures .1) (c .before .before .before .before .append .ensures .2)
+returns-2 c =
+    let added = c .before .before .before .before in
+    λ K. entered K _ _ _ _ _ _ (added .before .before .before .before .before .if1 .left) (added .append .ensures .1) (added .append .ensures .2)
 
 pub enter-spec : {M : Type 1} → statement M
 enter-spec =

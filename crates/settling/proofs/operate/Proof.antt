@@ -1,38 +1,54 @@
 -- `settling::operate` meets its contract: each arm by its own contract, what that needs out of soundness and the refusals.
+use mathlib.Core.Path.{ap}
 use mathlib.Core.List.{[]}
 use Rattle.rules.specs.Ledger.{ledgerOf, setReceipts}
-use Rattle.rules.specs.Settle.{sweep}
+use Rattle.rules.specs.Settle.{release, refund, sweep}
 use Rattle.rules.proofs.Calls.{by-op}
+use Rattle.rules.specs.Refusals.{oneOf, closing}
 use Rattle.rules.specs.Limits.{GRANT, TRANSFER, OPEN, RELEASE, REFUND, CLAIM, ACCEPT, DISPUTE, SWEEP, FREEZE, CAPS}
-use Rattle.settling.proofs.Facts.{formed, granting, transferring, opening, releasing, refunding, claiming, accepting, disputing, swept, counted}
+use Rattle.settling.proofs.Facts.{formed, granting, transferring, opening, ending, claiming, accepting, disputing, swept, counted}
 use Rattle.settling.proofs.Settled.{operated}
 use borrow.Author.Needs.{needs}
 use Rattle.settling.proofs.operate.Statement.{statement}
 use Rattle.settling.proofs.operate.Tie as tie
 
 grant-requires : tie.Need-grant-requires
-grant-requires c κs = granting _ _ _ _ _ _ _ (c .before .before .before .before .before .before .before .pre .settles) (c .before .before .match .keys1)
+grant-requires c κs =
+    let arm = c .before .before in
+    granting _ _ _ _ _ _ _ (arm .before .before .before .before .before .pre .settles) (arm .match .keys1)
 
 transfer-requires : tie.Need-transfer-requires
-transfer-requires c κs = transferring _ _ _ _ _ _ _ (c .before .before .before .before .before .before .before .pre .settles) (c .before .before .match .keys2)
+transfer-requires c κs =
+    let arm = c .before .before in
+    transferring _ _ _ _ _ _ _ (arm .before .before .before .before .before .pre .settles) (arm .match .keys2)
 
 open-escrow-requires : tie.Need-open-escrow-requires
-open-escrow-requires c κs = opening _ _ _ _ _ _ _ (c .before .before .before .before .before .before .before .before .pre .settles) (c .before .before .before .match .keys3)
+open-escrow-requires c κs =
+    let arm = c .before .before .before in
+    opening _ _ _ _ _ _ _ (arm .before .before .before .before .before .pre .settles) (arm .match .keys3)
 
-release-requires : tie.Need-release-requires
-release-requires c κs = releasing _ _ _ _ _ _ _ (c .before .before .before .before .before .before .before .before .pre .settles) (c .before .before .before .match .keys4)
+close-escrow-requires : tie.Need-close-escrow-requires
+close-escrow-requires c κs =
+    let arm = c .before .before .before in
+    ending _ _ _ _ _ _ _ (arm .before .before .before .before .before .pre .settles) (ap (oneOf closing) (arm .match .keys4))
 
-refund-requires : tie.Need-refund-requires
-refund-requires c κs = refunding _ _ _ _ _ _ _ (c .before .before .before .before .before .before .before .before .pre .settles) (c .before .before .before .match .keys5)
+close-escrow-requires-2 : tie.Need-close-escrow-requires-2
+close-escrow-requires-2 c κs =
+    let arm = c .before .before .before in
+    ending _ _ _ _ _ _ _ (arm .before .before .before .before .before .pre .settles) (ap (oneOf closing) (arm .match .keys5))
 
 claim-requires : tie.Need-claim-requires
 claim-requires c κs = claiming _ _ _ _ _ _ _ (c .before .before .before .before .before .before .before .pre .settles)
 
 accept-requires : tie.Need-accept-requires
-accept-requires c κs = accepting _ _ _ _ _ _ _ (c .before .before .before .before .before .before .before .before .before .pre .settles) (c .before .before .before .before .match .keys7)
+accept-requires c κs =
+    let arm = c .before .before .before .before in
+    accepting _ _ _ _ _ _ _ (arm .before .before .before .before .before .pre .settles) (arm .match .keys7)
 
 dispute-requires : tie.Need-dispute-requires
-dispute-requires c κs = disputing _ _ _ _ _ _ _ (c .before .before .before .before .before .before .pre .settles) (c .before .match .keys8)
+dispute-requires c κs =
+    let arm = c .before in
+    disputing _ _ _ _ _ _ _ (arm .before .before .before .before .before .pre .settles) (arm .match .keys8)
 
 sweep-requires : tie.Need-sweep-requires
 sweep-requires c κs = swept _ _ _ _ _ _ _ (c .before .before .before .before .before .before .before .before .before .pre .settles)
@@ -83,7 +99,8 @@ same-length-10 : tie.Need-same-length-10
 same-length-10 c = search needs
 
 returns-4 : tie.Need-returns-4
-returns-4 c = λ K. operated RELEASE _ _ _ (c .before .before .before .before .before .before .before .before .match .keys4) (c .before .before .before .before .release .ensures (setReceipts _ K))
+unfolding release
+returns-4 c = λ K. operated RELEASE _ _ _ (c .before .before .before .before .before .before .before .before .match .keys4) (c .before .before .before .before .close-escrow .ensures (setReceipts _ K))
 
 same-length-11 : tie.Need-same-length-11
 same-length-11 c = search needs
@@ -95,7 +112,8 @@ same-length-13 : tie.Need-same-length-13
 same-length-13 c = search needs
 
 returns-5 : tie.Need-returns-5
-returns-5 c = λ K. operated REFUND _ _ _ (c .before .before .before .before .before .before .before .before .match .keys5) (c .before .before .before .before .refund .ensures (setReceipts _ K))
+unfolding refund
+returns-5 c = λ K. operated REFUND _ _ _ (c .before .before .before .before .before .before .before .before .match .keys5) (c .before .before .before .before .close-escrow2 .ensures (setReceipts _ K))
 
 same-length-14 : tie.Need-same-length-14
 same-length-14 c = search needs
@@ -164,7 +182,9 @@ returns-11 c = λ K. operated CAPS _ _ _ (c .before .before .before .before .bef
 returns-12 : tie.Need-returns-12
 returns-12 c =
     let f = formed _ _ _ _ _ _ _ (c .before .before .before .before .before .pre .settles) in
-    absurd (by-op (λ _. ⊥) _ (f .low) (f .high) (c .match .rest .0 .0 .0 .0 .0 .0 .0 .0 .0 .0 .1) (c .match .rest .0 .0 .0 .0 .0 .0 .0 .0 .0 .1) (c .match .rest .0 .0 .0 .0 .0 .0 .0 .0 .1) (c .match .rest .0 .0 .0 .0 .0 .0 .0 .1) (c .match .rest .0 .0 .0 .0 .0 .0 .1) (c .match .rest .0 .0 .0 .0 .0 .1) (c .match .rest .0 .0 .0 .0 .1) (c .match .rest .0 .0 .0 .1) (c .match .rest .0 .0 .1) (c .match .rest .0 .1) (c .match .rest .1))
+    let few = c .match .rest .0 .0 .0 .0 .0 in
+    let some = c .match .rest in
+    absurd (by-op (λ _. ⊥) _ (f .low) (f .high) (few .0 .0 .0 .0 .0 .1) (few .0 .0 .0 .0 .1) (few .0 .0 .0 .1) (few .0 .0 .1) (few .0 .1) (few .1) (some .0 .0 .0 .0 .1) (some .0 .0 .0 .1) (some .0 .0 .1) (some .0 .1) (some .1))
 
 pub operate-spec : {M : Type 1} → statement M
 operate-spec =
@@ -173,8 +193,8 @@ operate-spec =
     grant-requires
     transfer-requires
     open-escrow-requires
-    release-requires
-    refund-requires
+    close-escrow-requires
+    close-escrow-requires-2
     claim-requires
     accept-requires
     dispute-requires

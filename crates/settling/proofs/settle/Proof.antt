@@ -2,7 +2,6 @@
 use Rattle.settling.proofs.Settled.{can-enter, header-kept, settled-by}
 use native.Mathlib.Omega.{arith}
 use Rattle.settling.proofs.Facts.{small}
-use Rattle.settling.proofs.Settled.{can-enter, settled-by}
 use borrow.Author.Needs.{needs}
 use Rattle.settling.proofs.settle.Statement.{statement}
 use Rattle.settling.proofs.settle.Tie as tie
@@ -11,13 +10,20 @@ operate-requires : tie.Need-operate-requires
 operate-requires c κs = record { journal = _; settles = c .before .before .before .before .before .before .before .before .before .pre }
 
 slice-write-header : tie.Need-slice-write-header
-slice-write-header c = omega (arith, small _ _ _ _ _ _ _ (c .before .before .before .before .before .before .before .before .before .before .before .before .before .before .before .before .before .before .pre) .whole, c .before .before .before .before .before .before .before .before .operate .kept .1 .0)
+slice-write-header c =
+    let left = c .before .before .before .before .before .before .before .before in
+    omega (arith, small _ _ _ _ _ _ _ (left .before .before .before .before .before .before .before .before .before .before .pre) .whole, left .operate .kept .1 .0)
 
 enter-requires : tie.Need-enter-requires
-enter-requires c κs = can-enter _ _ _ _ _ _ _ _ _ _ _ _ (c .before .before .before .before .before .before .before .before .before .before .before .before .before .before .before .before .before .before .before .before .pre) (c .before .before .before .before .before .before .before .before .before .before .operate .ensures)
+enter-requires c κs =
+    let left = c .before .before .before .before .before .before .before .before .before .before in
+    can-enter _ _ _ _ _ _ _ _ _ _ _ _ (left .before .before .before .before .before .before .before .before .before .before .pre) (left .operate .ensures)
 
 same-length : tie.Need-same-length
-same-length c = header-kept _ _ _ _ _ _ _ _ _ _ _ _ (c .before .before .before .before .before .before .before .before .before .before .before .before .before .before .before .before .before .before .before .before .before .before .before .before .before .pre) (c .before .before .before .before .before .before .before .before .before .before .before .before .before .before .before .operate .ensures) (c .before .before .before .before .enter .last .0) (c .before .before .before .before .enter .kept .0)
+same-length c =
+    let entered = c .before .before .before .before in
+    let left = entered .before .before .before .before .before .before .before .before .before .before .before in
+    header-kept _ _ _ _ _ _ _ _ _ _ _ _ (left .before .before .before .before .before .before .before .before .before .before .pre) (left .operate .ensures) (entered .enter .last .0) (entered .enter .kept .0)
 
 same-length-2 : tie.Need-same-length-2
 same-length-2 c = search needs
@@ -32,7 +38,10 @@ same-length-5 : tie.Need-same-length-5
 same-length-5 c = search needs
 
 returns : tie.Need-returns
-returns c = settled-by _ _ _ _ _ _ _ _ _ _ _ _ (c .before .before .before .before .before .before .before .before .before .before .before .before .before .before .before .before .before .before .before .before .before .before .before .before .before .pre) (c .before .before .before .before .before .before .before .before .before .before .before .before .before .before .before .operate .ensures) _ _ (c .before .before .before .before .enter .ensures)
+returns c =
+    let entered = c .before .before .before .before in
+    let left = entered .before .before .before .before .before .before .before .before .before .before .before in
+    settled-by _ _ _ _ _ _ _ _ _ _ _ _ (left .before .before .before .before .before .before .before .before .before .before .pre) (left .operate .ensures) _ _ (entered .enter .ensures)
 
 pub settle-spec : {M : Type 1} → statement M
 settle-spec =

@@ -4,11 +4,8 @@ use borrow.Author.Needs.{needs}
 use Rattle.sweeping.proofs.close_due_receipt.Statement.{statement}
 use Rattle.sweeping.proofs.close_due_receipt.Tie as tie
 
-sub-get : tie.Need-sub-get
-sub-get c = search needs
-
-get-requires : tie.Need-get-requires
-get-requires c κs = search needs
+receipt-requires : tie.Need-receipt-requires
+receipt-requires c κs = search needs
 
 accept-receipt-requires : tie.Need-accept-receipt-requires
 accept-receipt-requires c κs = search needs
@@ -23,7 +20,9 @@ same-length-3 : tie.Need-same-length-3
 same-length-3 c = search needs
 
 returns : tie.Need-returns
-returns c = due-accepted _ _ _ _ _ _ _ _ _ _ _ _ (c .before .before .before .before .before .before .before .before .before .before .before .get .ensures) (c .before .before .before .before .before .before .before .before .before .before .if1 .taken) (c .before .before .before .before .before .before .accept-receipt .ensures)
+returns c =
+    let accepted = c .before .before .before .before .before .before in
+    due-accepted _ _ _ _ _ _ _ _ _ _ _ _ (accepted .before .before .before .before .before .receipt .ensures) (accepted .before .before .before .before .if1 .taken) (accepted .accept-receipt .ensures)
 
 close-receipt-requires : tie.Need-close-receipt-requires
 close-receipt-requires c κs = search needs
@@ -32,14 +31,13 @@ same-length-4 : tie.Need-same-length-4
 same-length-4 c = search needs
 
 returns-2 : tie.Need-returns-2
-returns-2 c = due-lapsed _ _ _ _ _ _ _ _ _ (c .before .before .before .before .before .get .ensures) (c .before .before .before .before .if1 .left) (c .before .before .close-receipt .ensures)
+returns-2 c = due-lapsed _ _ _ _ _ _ _ _ _ (c .before .before .before .before .before .receipt .ensures) (c .before .before .before .before .if1 .left) (c .before .before .close-receipt .ensures)
 
 pub close-due-receipt-spec : {M : Type 1} → statement M
 close-due-receipt-spec =
     tie.close
     (tie.spec
-    sub-get
-    get-requires
+    receipt-requires
     accept-receipt-requires
     same-length
     same-length-2

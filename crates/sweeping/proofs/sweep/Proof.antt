@@ -13,7 +13,10 @@ sub-sweep-escrows : tie.Need-sub-sweep-escrows
 sub-sweep-escrows c = search needs
 
 sweep-escrows-requires : tie.Need-sweep-escrows-requires
-sweep-escrows-requires c κs = expiring _ _ _ _ _ _ _ _ _ (c .before .before .before .before .before .before .before .before .before .before .before .before .before .before .before .before .args .limit) (c .before .before .before .before .before .before .before .before .sweep-receipts .result) (c .before .before .before .before .before .before .before .before .before .before .before .before .before .before .before .before .pre) (c .before .before .before .before .before .before .before .before .sweep-receipts .ensures .1)
+sweep-escrows-requires c κs =
+    let closed = c .before .before .before .before .before .before .before .before in
+    let start = closed .before .before .before .before .before .before .before .before in
+    expiring _ _ _ _ _ _ _ _ _ (start .args .limit) (closed .sweep-receipts .result) (start .pre) (closed .sweep-receipts .ensures .1)
 
 add-result : tie.Need-add-result
 add-result c = omega (arith, c .before .before .before .before .before .before .before .before .before .before .before .before .before .sweep-receipts .ensures .0, c .before .before .before .before .sweep-escrows .ensures .0)
@@ -28,7 +31,10 @@ same-length-3 : tie.Need-same-length-3
 same-length-3 c = search needs
 
 returns : tie.Need-returns
-returns c = swept-by _ _ _ _ _ _ _ _ _ _ _ _ _ _ (c .before .before .before .before .before .before .before .before .before .before .before .before .before .before .before .before .before .before .before .before .before .pre .good .wide) (c .before .before .before .before .before .before .before .before .before .before .before .before .before .sweep-receipts .ensures .1) (c .before .before .before .before .sweep-escrows .ensures .1)
+returns c =
+    let expired = c .before .before .before .before in
+    let closed = expired .before .before .before .before .before .before .before .before .before in
+    swept-by _ _ _ _ _ _ _ _ _ _ _ _ _ _ (closed .before .before .before .before .before .before .before .before .pre .good .wide) (closed .sweep-receipts .ensures .1) (expired .sweep-escrows .ensures .1)
 
 pub sweep-spec : {M : Type 1} → statement M
 sweep-spec =

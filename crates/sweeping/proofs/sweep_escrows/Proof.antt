@@ -7,11 +7,11 @@ use Rattle.sweeping.proofs.sweep_escrows.Tie as tie
 
 abbrev Inv-loop : tie.InvT-loop
 Inv-loop edition header wallets₀ escrows₀ time limit written closed₀ number₀ wallets escrows closed number =
-    SoFar edition header wallets₀ escrows₀ time limit closed number wallets escrows
+    SoFar edition header wallets₀ escrows₀ time limit closed (number .0) wallets escrows
 
 abbrev μ-loop : tie.MeasureT-loop
 μ-loop edition header wallets₀ escrows₀ time limit written closed₀ number₀ wallets escrows closed number =
-    written - number
+    written - number .0
 
 shared-slice-read-written : tie.Need-shared-slice-read-written Inv-loop μ-loop
 shared-slice-read-written c = omega (arith, c .before .before .before .before .pre .sweeping .small .whole)
@@ -23,7 +23,9 @@ add-number : tie.Need-add-number Inv-loop μ-loop
 add-number c = omega arith
 
 sweep-escrow-requires : tie.Need-sweep-escrow-requires Inv-loop μ-loop
-sweep-escrow-requires c κs = can-expire _ _ _ _ _ _ _ _ _ _ (c .before .before .before .before .loop .inv) (c .before .before .before .before .before .before .before .before .before .pre) (c .before .before .before .if1 .left)
+sweep-escrow-requires c κs =
+    let turn = c .before .before .before .before .before .before in
+    can-expire _ _ _ _ _ _ _ _ _ _ (turn .loop .inv) (turn .before .before .before .before .before .pre) (c .before .before .before .before .if1 .left)
 
 add-closed : tie.Need-add-closed Inv-loop μ-loop
 add-closed c = omega arith
@@ -33,26 +35,28 @@ loop-less c = omega arith
 
 loop-again : tie.Need-loop-again Inv-loop μ-loop
 loop-again c =
-    next _ _ _ _ _ _ _ _ _ _ (c .before .before .before .before .before .before .before .before .before .loop .inv) _ _ _ (c .before .before .before .before .before .before .before .before .if1 .left) (c .before .before .before .before .before .before .before .if2 .left)
-    (c .before .before .before .before .sweep-escrow .kept .1 .1 .0) (c .before .before .before .before .sweep-escrow .kept .1 .1 .1 .0) (c .before .before .before .before .sweep-escrow .ensures .0) (c .before .before .before .before .sweep-escrow .ensures .1)
+    let swept = c .before .before .before .before in
+    let row = swept .sweep-escrow in
+    let room = swept .before .before .before .before in
+    next _ _ _ _ _ _ _ _ _ _ (room .before .before .before .loop .inv) _ _ _ (room .before .if1 .left) (room .if2 .left) (row .kept .1 .1 .0) (row .kept .1 .1 .1 .0) (row .ensures .0) (row .ensures .1)
 
 same-length : tie.Need-same-length Inv-loop μ-loop
-same-length c = c .before .loop .inv .wallets
+same-length c = c .before .before .loop .inv .wallets
 
 same-length-2 : tie.Need-same-length-2 Inv-loop μ-loop
-same-length-2 c = c .before .loop .inv .escrows
+same-length-2 c = c .before .before .loop .inv .escrows
 
 returns : tie.Need-returns Inv-loop μ-loop
-returns c = ended _ _ _ _ _ _ _ _ _ _ (c .before .loop .inv) (c .if1 .taken)
+returns c = ended _ _ _ _ _ _ _ _ _ _ (c .before .before .loop .inv) (c .if1 .taken)
 
 same-length-3 : tie.Need-same-length-3 Inv-loop μ-loop
-same-length-3 c = c .before .before .loop .inv .wallets
+same-length-3 c = c .before .before .before .loop .inv .wallets
 
 same-length-4 : tie.Need-same-length-4 Inv-loop μ-loop
-same-length-4 c = c .before .before .loop .inv .escrows
+same-length-4 c = c .before .before .before .loop .inv .escrows
 
 returns-2 : tie.Need-returns-2 Inv-loop μ-loop
-returns-2 c = full _ _ _ _ _ _ _ _ _ _ (c .before .before .loop .inv) (c .if2 .taken)
+returns-2 c = full _ _ _ _ _ _ _ _ _ _ (c .before .before .before .loop .inv) (c .if2 .taken)
 
 pub sweep-escrows-spec : {M : Type 1} → statement M
 sweep-escrows-spec =
