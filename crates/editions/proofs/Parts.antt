@@ -3,9 +3,9 @@ use mathlib.Core.Path.{_≡_, refl, sym, _∙_, subst}
 use mathlib.Core.List.{List}
 use mathlib.Core.Bool.{Bool, true, false, not, cond, _&&_, _||_, false≢true}
 use Prim.Native.Nat.{ℕ, _+_, _*_, _≤_, _<_}
-use lib.Dec.{eqb, ltb}
+use lib.Dec.{eqb, ltb, leb}
 use lib.ListN.{getD, length}
-use borrow.Author.Tests.{lt-ltb, le-ltb}
+use borrow.Author.Tests.{le-leb, lt-leb}
 use Rattle.rules.specs.Limits.{WALLET-LEN, MAX-WALLETS, WALLETS}
 use Rattle.rules.specs.Ledger.{rowOf}
 use Rattle.rules.specs.Lookup.{countRight, partAt, walletNumber}
@@ -13,6 +13,7 @@ use Rattle.rules.specs.declared.Edition.{Edition}
 use Rattle.rules.proofs.Bools.{or-none-fst, or-none-snd, not-false-true}
 use Rattle.rows.specs.Part.{placed}
 use Rattle.rows.proofs.Part.{count-fits}
+use Rattle.rows.proofs.Found.{there-found}
 
 -- a part at a place that was worked out
 pub part-by : (len : ℕ) (t r : List ℕ) (p q : ℕ × ℕ) {place place′ : ℕ} → place ≡ place′ → (r ≡ partAt len t place) × (q ≡ placed p place)
@@ -42,19 +43,20 @@ pub counted : (ed : Edition) (header wallets : List ℕ) (id : ℕ) {right : Boo
     → n * WALLET-LEN ≤ length wallets
 counted ed header wallets id x t y = rw y (count-fits (ed .header) WALLETS WALLET-LEN MAX-WALLETS header wallets (asked ed header wallets id x t))
 
--- and the answer is whether the search found a row
-searched : (ed : Edition) (header wallets : List ℕ) (id : ℕ) {right b : Bool} {n row : ℕ} → right ≡ Right ed header wallets → not right || eqb id 0 ≡ false → n ≡ getD header WALLETS 0
-    → row ≡ rowOf wallets n id → ltb row n ≡ b → cond b (row + 1) 0 ≡ walletNumber ed header wallets id
+-- and the answer is whether the number that the search gave is written
+searched : (ed : Edition) (header wallets : List ℕ) (id : ℕ) {right b : Bool} {n number : ℕ} → right ≡ Right ed header wallets → not right || eqb id 0 ≡ false → n ≡ getD header WALLETS 0
+    → number ≡ rowOf wallets n id + 1 → leb number n ≡ b → cond b number 0 ≡ walletNumber ed header wallets id
 unfolding walletNumber
-searched ed header wallets id {right} x t y z l =
+searched ed header wallets id {right} {b} {n} {number} x t y z l =
     let r = asked ed header wallets id x t in
     let i = or-none-snd (not right) (eqb id 0) t in
-    rw (r, i, ← y, ← z, l)
+    let w = sym (there-found number (rowOf wallets n id) n z) ∙ l in
+    rw (r, i, ← y, w, z)
 
-pub found : (ed : Edition) (header wallets : List ℕ) (id : ℕ) {right : Bool} {n row : ℕ} → right ≡ Right ed header wallets → not right || eqb id 0 ≡ false → n ≡ getD header WALLETS 0
-    → row ≡ rowOf wallets n id → row < n → row + 1 ≡ walletNumber ed header wallets id
-found ed header wallets id x t y z l = searched ed header wallets id x t y z (lt-ltb _ _ l)
+pub found : (ed : Edition) (header wallets : List ℕ) (id : ℕ) {right : Bool} {n number : ℕ} → right ≡ Right ed header wallets → not right || eqb id 0 ≡ false → n ≡ getD header WALLETS 0
+    → number ≡ rowOf wallets n id + 1 → number ≤ n → number ≡ walletNumber ed header wallets id
+found ed header wallets id x t y z l = searched ed header wallets id x t y z (le-leb _ _ l)
 
-pub not-found : (ed : Edition) (header wallets : List ℕ) (id : ℕ) {right : Bool} {n row : ℕ} → right ≡ Right ed header wallets → not right || eqb id 0 ≡ false → n ≡ getD header WALLETS 0
-    → row ≡ rowOf wallets n id → n ≤ row → 0 ≡ walletNumber ed header wallets id
-not-found ed header wallets id x t y z l = searched ed header wallets id x t y z (le-ltb _ _ l)
+pub not-found : (ed : Edition) (header wallets : List ℕ) (id : ℕ) {right : Bool} {n number : ℕ} → right ≡ Right ed header wallets → not right || eqb id 0 ≡ false → n ≡ getD header WALLETS 0
+    → number ≡ rowOf wallets n id + 1 → n < number → 0 ≡ walletNumber ed header wallets id
+not-found ed header wallets id x t y z l = searched ed header wallets id x t y z (lt-leb _ _ l)

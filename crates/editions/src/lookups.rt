@@ -92,9 +92,9 @@ pub fn wallet_row(edition: Edition, header: &[u64], wallets: &[u64], id: u64) ->
         return WalletNumber(0);
     }
     let n = rows::at(header, WALLETS) as usize;
-    let row = rows::find_row(wallets, n, id);
-    if row < n {
-        WalletNumber(row as u64 + 1)
+    let wallet = rows::numbered::find_wallet(wallets, n, id);
+    if wallet.0 <= n as u64 {
+        wallet
     } else {
         WalletNumber(0)
     }

@@ -13,8 +13,9 @@ use Rattle.rules.specs.Ledger.{Ledger, ledgerOf, rowOf, escrow, escrowCount, re
 use Rattle.rules.specs.Refusals.{Refusal, row, first, ofEscrow, releasable, operationRefusals}
 use Rattle.rules.specs.declared.Edition.{Edition}
 use Rattle.rules.specs.declared.Submission.{Submission}
-use Rattle.holds.specs.Named.{rowNamed}
-use Rattle.holds.proofs.Numbers.{named}
+use Rattle.holds.specs.Named.{named}
+use Rattle.rows.proofs.Found.{there-found}
+use Rattle.holds.proofs.Numbers.{at-row}
 
 -- with a link
 abbrev link : Submission → Bool → Bool
@@ -43,15 +44,15 @@ claim-rows L s o = simp o
 
 pub claim-by :
     (ed : Edition) (h w e r j : List ℕ) (s : Submission)
-    (provider requester i from to deadline state r15 r22 r23 r24 r25 r26 r27 r29 r30 r31 r39 r40 : ℕ)
+    (provider requester number from to deadline state r15 r22 r23 r24 r25 r26 r27 r29 r30 r31 r39 r40 : ℕ)
     → s .op ≡ CLAIM
-    → provider ≡ rowOf w (getD h WALLETS 0) (s .signer)
-    → requester ≡ rowOf w (getD h WALLETS 0) (s .target)
-    → i ≡ rowNamed (getD h ESCROWS 0) (s .link)
-    → from ≡ word e (ed .escrow) i FROM
-    → to ≡ word e (ed .escrow) i TO
-    → deadline ≡ word e (ed .escrow) i ESCROW-DEADLINE
-    → state ≡ word e (ed .escrow) i ESCROW-STATE
+    → provider ≡ rowOf w (getD h WALLETS 0) (s .signer) + 1
+    → requester ≡ rowOf w (getD h WALLETS 0) (s .target) + 1
+    → number ≡ named (getD h ESCROWS 0) (s .link)
+    → from ≡ word e (ed .escrow) (number - 1) FROM
+    → to ≡ word e (ed .escrow) (number - 1) TO
+    → deadline ≡ word e (ed .escrow) (number - 1) ESCROW-DEADLINE
+    → state ≡ word e (ed .escrow) (number - 1) ESCROW-STATE
     → r40 ≡ cond (full JOURNAL-LEN j (getD h ENTRIES 0)) 40 0
     → r39 ≡ cond (full RECEIPT-LEN r (getD h RECEIPTS 0)) 39 r40
     → r31 ≡ cond (link s (written (getD h ESCROWS 0) (s .link) && ltb deadline (s .until))) 31 r39
@@ -61,15 +62,17 @@ pub claim-by :
     → r26 ≡ cond (ltb (s .until) (s .now)) 26 r27
     → r25 ≡ cond (ltb (s .issued + MAX-ACCEPTANCE-MS) (s .until)) 25 r26
     → r24 ≡ cond (ltb (s .until) (s .issued + MIN-ACCEPTANCE-MS)) 24 r25
-    → r23 ≡ cond (not (ltb requester (getD h WALLETS 0))) 23 r24
-    → r22 ≡ cond (not (ltb provider (getD h WALLETS 0))) 22 r23
+    → r23 ≡ cond (not (leb requester (getD h WALLETS 0))) 23 r24
+    → r22 ≡ cond (not (leb provider (getD h WALLETS 0))) 22 r23
     → r15 ≡ cond (eqb (s .target) 0 || eqb (s .target) (s .signer)) 15 r22
     → r15 ≡ first (operationRefusals (ledgerOf ed h w e r j) s)
 unfolding ofClaim
-claim-by ed h w e r j s provider requester i from to deadline state r15 r22 r23 r24 r25 r26 r27 r29 r30 r31 r39 r40 o p q a b d f g
+claim-by ed h w e r j s provider requester number from to deadline state r15 r22 r23 r24 r25 r26 r27 r29 r30 r31 r39 r40 o p q a b d f g
     c40 c39 c31 c30 c29 c27 c26 c25 c24 c23 c22 c15 =
-    let x = named (getD h ESCROWS 0) (s .link) i (λ i. not (eqb (word e (ed .escrow) i ESCROW-STATE) IS-OPEN && leb (s .now) (word e (ed .escrow) i ESCROW-DEADLINE))) a in
-    let y = named (getD h ESCROWS 0) (s .link) i (λ i. not (eqb (word e (ed .escrow) i FROM) (s .target)) || not (eqb (word e (ed .escrow) i TO) (s .signer))) a in
-    let z = named (getD h ESCROWS 0) (s .link) i (λ i. ltb (word e (ed .escrow) i ESCROW-DEADLINE) (s .until)) a in
+    let x = at-row (getD h ESCROWS 0) (s .link) number (λ i. not (eqb (word e (ed .escrow) i ESCROW-STATE) IS-OPEN && leb (s .now) (word e (ed .escrow) i ESCROW-DEADLINE))) a in
+    let y = at-row (getD h ESCROWS 0) (s .link) number (λ i. not (eqb (word e (ed .escrow) i FROM) (s .target)) || not (eqb (word e (ed .escrow) i TO) (s .signer))) a in
+    let z = at-row (getD h ESCROWS 0) (s .link) number (λ i. ltb (word e (ed .escrow) i ESCROW-DEADLINE) (s .until)) a in
+    let u = there-found provider _ (getD h WALLETS 0) p in
+    let v = there-found requester _ (getD h WALLETS 0) q in
     let picks : r15 ≡ first (ofClaim (ledgerOf ed h w e r j) s) = cc in
     picks ∙ sym (claim-rows _ s o)

@@ -13,8 +13,8 @@ use Rattle.rules.specs.Ledger.{Ledger, ledgerOf, escrow, escrowCount, entryCoun
 use Rattle.rules.specs.Refusals.{Refusal, row, first, clear, ofEscrow, releasable, operationRefusals}
 use Rattle.rules.specs.declared.Edition.{Edition}
 use Rattle.rules.specs.declared.Submission.{Submission}
-use Rattle.holds.specs.Named.{rowNamed}
-use Rattle.holds.proofs.Numbers.{named}
+use Rattle.holds.specs.Named.{named}
+use Rattle.holds.proofs.Numbers.{at-row}
 
 unfoldable pub ofClosing : Ledger → Submission → List Refusal
 ofClosing L s =
@@ -33,20 +33,20 @@ unfolding operationRefusals ofClosing
 refund-rows L s o = simp (o, or-false)
 
 pub closing-by :
-    (ed : Edition) (h w e r j : List ℕ) (s : Submission) (i from deadline state r27 r28 r29 r40 : ℕ)
+    (ed : Edition) (h w e r j : List ℕ) (s : Submission) (number from deadline state r27 r28 r29 r40 : ℕ)
     → (s .op ≡ RELEASE) ⊎ (s .op ≡ REFUND)
-    → i ≡ rowNamed (getD h ESCROWS 0) (s .target)
-    → from ≡ word e (ed .escrow) i FROM
-    → deadline ≡ word e (ed .escrow) i ESCROW-DEADLINE
-    → state ≡ word e (ed .escrow) i ESCROW-STATE
+    → number ≡ named (getD h ESCROWS 0) (s .target)
+    → from ≡ word e (ed .escrow) (number - 1) FROM
+    → deadline ≡ word e (ed .escrow) (number - 1) ESCROW-DEADLINE
+    → state ≡ word e (ed .escrow) (number - 1) ESCROW-STATE
     → r40 ≡ cond (full JOURNAL-LEN j (getD h ENTRIES 0)) 40 0
     → r29 ≡ cond (written (getD h ESCROWS 0) (s .target) && not (eqb state IS-OPEN && leb (s .now) deadline)) 29 r40
     → r28 ≡ cond (written (getD h ESCROWS 0) (s .target) && (not (eqb (s .signer) from) && clear s ADMIN)) 28 r29
     → r27 ≡ cond (not (written (getD h ESCROWS 0) (s .target))) 27 r28
     → r27 ≡ first (operationRefusals (ledgerOf ed h w e r j) s)
 unfolding ofClosing
-closing-by ed h w e r j s i from deadline state r27 r28 r29 r40 o a b d f c40 c29 c28 c27 =
-    let x = named (getD h ESCROWS 0) (s .target) i (λ i. not (eqb (s .signer) (word e (ed .escrow) i FROM)) && clear s ADMIN) a in
-    let y = named (getD h ESCROWS 0) (s .target) i (λ i. not (eqb (word e (ed .escrow) i ESCROW-STATE) IS-OPEN && leb (s .now) (word e (ed .escrow) i ESCROW-DEADLINE))) a in
+closing-by ed h w e r j s number from deadline state r27 r28 r29 r40 o a b d f c40 c29 c28 c27 =
+    let x = at-row (getD h ESCROWS 0) (s .target) number (λ i. not (eqb (s .signer) (word e (ed .escrow) i FROM)) && clear s ADMIN) a in
+    let y = at-row (getD h ESCROWS 0) (s .target) number (λ i. not (eqb (word e (ed .escrow) i ESCROW-STATE) IS-OPEN && leb (s .now) (word e (ed .escrow) i ESCROW-DEADLINE))) a in
     let picks : r27 ≡ first (ofClosing (ledgerOf ed h w e r j) s) = cc in
     picks ∙ sym (⊎-elim (release-rows _ s) (refund-rows _ s) o)

@@ -1,37 +1,35 @@
--- The row that a number names: it is a small number, and what is said of it where it is written is said of the number less one.
+-- The number that is read at: it names a row, and what is said of that row where the number is written is said of the row of the number.
 use mathlib.Core.Path.{_≡_, refl}
 use mathlib.Core.Bool.{Bool, true, false, cond, _&&_}
-use Prim.Native.Nat.{ℕ, _-_, _^_, _≤_, _<_}
+use Prim.Native.Nat.{ℕ, _-_, _≤_}
 use native.Mathlib.Omega.{arith}
 use lib.Dec.{ltb, leb}
-use borrow.Author.Tests.{ltb-true}
+use borrow.Author.Tests.{ltb-true, leb-true}
 use Rattle.rules.specs.Ledger.{written}
-use Rattle.rules.proofs.Bools.{and-fst}
-use Rattle.rules.proofs.Passed.{written-row}
-use Rattle.holds.specs.Named.{rowNamed}
+use Rattle.rules.proofs.Bools.{and-fst, and-snd}
+use Rattle.rows.specs.Numbered.{Names}
+use Rattle.holds.specs.Named.{named}
 
--- a number that names one of n rows
-pub written-low : (n k : ℕ) → written n k ≡ true → 1 ≤ k
-written-low n k t = ltb-true 0 k (and-fst (ltb 0 k) (leb k n) t)
-
--- the row that it names, or row 0
-pub named-small : (n k row : ℕ) → n ≤ 4096 → row ≡ rowNamed n k → row < 2 ^ 32
-unfolding rowNamed
-named-small n k row few e = go (written n k) refl
+-- it names a row: the number itself, or 1
+pub names-row : (n k number : ℕ) → n ≤ 4096 → number ≡ named n k → Names number
+unfolding named
+names-row n k number few e = go (written n k) refl
   where
-    go : (t : Bool) → written n k ≡ t → row < 2 ^ 32
+    go : (t : Bool) → written n k ≡ t → Names number
     go true x =
-        let y : row ≡ k - 1 = rw x at e in
-        omega (arith, written-row n k x)
+        let y : number ≡ k = rw x at e in
+        let low = ltb-true 0 k (and-fst (ltb 0 k) (leb k n) x) in
+        let high = leb-true k n (and-snd (ltb 0 k) (leb k n) x) in
+        record { low = omega arith; high = omega arith }
     go false x =
-        let y : row ≡ 0 = rw x at e in
-        omega arith
+        let y : number ≡ 1 = rw x at e in
+        record { low = omega arith; high = omega arith }
 
--- what is said of the row, where the number names one
-pub named : (n k i : ℕ) (f : ℕ → Bool) → i ≡ rowNamed n k → written n k && f i ≡ written n k && f (k - 1)
-unfolding rowNamed
-named n k i f e = go (written n k) e
+-- what is said of its row, where the number is written
+pub at-row : (n k number : ℕ) (f : ℕ → Bool) → number ≡ named n k → written n k && f (number - 1) ≡ written n k && f (k - 1)
+unfolding named
+at-row n k number f e = go (written n k) e
   where
-    go : (t : Bool) → i ≡ cond t (k - 1) 0 → t && f i ≡ t && f (k - 1)
+    go : (t : Bool) → number ≡ cond t k 1 → t && f (number - 1) ≡ t && f (k - 1)
     go true x = rw x
     go false x = refl

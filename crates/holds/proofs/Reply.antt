@@ -13,8 +13,8 @@ use Rattle.rules.specs.Ledger.{Ledger, ledgerOf, receipt, receiptCount, entryCo
 use Rattle.rules.specs.Refusals.{Refusal, row, first, clear, ofReceipt, operationRefusals}
 use Rattle.rules.specs.declared.Edition.{Edition}
 use Rattle.rules.specs.declared.Submission.{Submission}
-use Rattle.holds.specs.Named.{rowNamed}
-use Rattle.holds.proofs.Numbers.{named}
+use Rattle.holds.specs.Named.{named}
+use Rattle.holds.proofs.Numbers.{at-row}
 
 unfoldable pub ofReply : Ledger → Submission → List Refusal
 ofReply L s =
@@ -34,11 +34,11 @@ unfolding operationRefusals ofReply
 dispute-rows L s o = simp o
 
 pub reply-by :
-    (ed : Edition) (h w e r j : List ℕ) (s : Submission) (i requester state r32 r33 r34 r35 r40 : ℕ)
+    (ed : Edition) (h w e r j : List ℕ) (s : Submission) (number requester state r32 r33 r34 r35 r40 : ℕ)
     → (s .op ≡ ACCEPT) ⊎ (s .op ≡ DISPUTE)
-    → i ≡ rowNamed (getD h RECEIPTS 0) (s .target)
-    → requester ≡ word r RECEIPT-LEN i REQUESTER
-    → state ≡ word r RECEIPT-LEN i RECEIPT-STATE
+    → number ≡ named (getD h RECEIPTS 0) (s .target)
+    → requester ≡ word r RECEIPT-LEN (number - 1) REQUESTER
+    → state ≡ word r RECEIPT-LEN (number - 1) RECEIPT-STATE
     → r40 ≡ cond (full JOURNAL-LEN j (getD h ENTRIES 0)) 40 0
     → r35 ≡ cond (eqb (s .op) DISPUTE && clear s REASON-GIVEN) 35 r40
     → r34 ≡ cond (written (getD h RECEIPTS 0) (s .target) && not (eqb state PENDING)) 34 r35
@@ -46,8 +46,8 @@ pub reply-by :
     → r32 ≡ cond (not (written (getD h RECEIPTS 0) (s .target))) 32 r33
     → r32 ≡ first (operationRefusals (ledgerOf ed h w e r j) s)
 unfolding ofReply
-reply-by ed h w e r j s i requester state r32 r33 r34 r35 r40 o a b d c40 c35 c34 c33 c32 =
-    let x = named (getD h RECEIPTS 0) (s .target) i (λ i. not (eqb (s .signer) (word r RECEIPT-LEN i REQUESTER))) a in
-    let y = named (getD h RECEIPTS 0) (s .target) i (λ i. not (eqb (word r RECEIPT-LEN i RECEIPT-STATE) PENDING)) a in
+reply-by ed h w e r j s number requester state r32 r33 r34 r35 r40 o a b d c40 c35 c34 c33 c32 =
+    let x = at-row (getD h RECEIPTS 0) (s .target) number (λ i. not (eqb (s .signer) (word r RECEIPT-LEN i REQUESTER))) a in
+    let y = at-row (getD h RECEIPTS 0) (s .target) number (λ i. not (eqb (word r RECEIPT-LEN i RECEIPT-STATE) PENDING)) a in
     let picks : r32 ≡ first (ofReply (ledgerOf ed h w e r j) s) = cc in
     picks ∙ sym (⊎-elim (accept-rows _ s) (dispute-rows _ s) o)

@@ -1,2 +1,2 @@
--- The row that a number names.
+-- The number that is read at.
 pub mod Named

@@ -1,8 +1,8 @@
--- The row that a number names.
+-- The number that is read at.
 use mathlib.Core.Bool.{cond}
-use Prim.Native.Nat.{ℕ, _-_}
+use Prim.Native.Nat.{ℕ}
 use Rattle.rules.specs.Ledger.{written}
 
--- of n written rows, the one that the number k names; row 0 where it names none
-unfoldable pub rowNamed : ℕ → ℕ → ℕ
-rowNamed n k = cond (written n k) (k - 1) 0
+-- k itself where it names one of n written rows; 1 where it names none
+unfoldable pub named : ℕ → ℕ → ℕ
+named n k = cond (written n k) k 1

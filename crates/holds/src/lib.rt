@@ -8,8 +8,10 @@ ghost use Rattle.rules.specs.Limits.{WALLETS, ESCROWS, RECEIPTS, ENTRIES};
 ghost use Rattle.rules.specs.Ledger.{Ledger, Sized};
 ghost use Rattle.rules.specs.Moments.{lent, any, _of-edition_, _with-header_, _with-escrows_, _with-receipts_, _with-journal_};
 ghost use Rattle.rules.specs.Refusals.{first, operationRefusals};
-ghost use Rattle.holds.specs.Named.{rowNamed};
+ghost use Rattle.holds.specs.Named.{named};
 use rules::Edition;
+use rules::EscrowNumber;
+use rules::ReceiptNumber;
 use rules::Submission;
 use rules::limits::ADMIN;
 use rules::limits::DISPUTE;
@@ -31,14 +33,25 @@ use rules::limits::REQUESTER;
 use rules::limits::TO;
 use rules::limits::WALLETS;
 
-// The row that a number names, of a count of written rows. Where it names none, row 0: what is read there counts for nothing.
-pub fn row_of(count: u64, number: u64) -> usize
-    ensures { λ r. ⌜ r ≡ rowNamed count number ⌝ }
+// An escrow's number, of a count of written ones. Where it names none of them, 1: what is read there counts for nothing.
+fn escrow_named(count: u64, number: EscrowNumber) -> EscrowNumber
+    ensures { λ r. ⌜ r .0 ≡ named count (number .0) ⌝ }
 {
-    if (0 < number) & (number <= count) {
-        number as usize - 1
+    if (0 < number.0) & (number.0 <= count) {
+        number
     } else {
-        0
+        EscrowNumber(1)
+    }
+}
+
+// The same of a receipt.
+fn receipt_named(count: u64, number: ReceiptNumber) -> ReceiptNumber
+    ensures { λ r. ⌜ r .0 ≡ named count (number .0) ⌝ }
+{
+    if (0 < number.0) & (number.0 <= count) {
+        number
+    } else {
+        ReceiptNumber(1)
     }
 }
 
@@ -55,10 +68,10 @@ pub fn closing_refusal(
 {
     let count = header[ESCROWS];
     let entries = header[ENTRIES] as usize;
-    let row = row_of(count, s.target);
-    let from = rows::get(escrows, edition.escrow, row, FROM);
-    let deadline = rows::get(escrows, edition.escrow, row, ESCROW_DEADLINE);
-    let state = rows::get(escrows, edition.escrow, row, ESCROW_STATE);
+    let escrow = escrow_named(count, EscrowNumber(s.target));
+    let from = rows::numbered::escrow(edition, escrows, escrow, FROM);
+    let deadline = rows::numbered::escrow(edition, escrows, escrow, ESCROW_DEADLINE);
+    let state = rows::numbered::escrow(edition, escrows, escrow, ESCROW_STATE);
     let there = (0 < s.target) & (s.target <= count);
     let signer_not_authorized = there & ((s.signer != from) & (s.flags / ADMIN % 2 == 0));
     let not_open = there & !((state == IS_OPEN) & (s.now <= deadline));
@@ -86,16 +99,18 @@ pub fn claim_refusal(
     let held = header[ESCROWS];
     let claimed = header[RECEIPTS] as usize;
     let entries = header[ENTRIES] as usize;
-    let provider = rows::find_row(wallets, count, s.signer);
-    let requester = rows::find_row(wallets, count, s.target);
-    let row = row_of(held, s.link);
-    let from = rows::get(escrows, edition.escrow, row, FROM);
-    let to = rows::get(escrows, edition.escrow, row, TO);
-    let deadline = rows::get(escrows, edition.escrow, row, ESCROW_DEADLINE);
-    let state = rows::get(escrows, edition.escrow, row, ESCROW_STATE);
+    let provider = rows::numbered::find_wallet(wallets, count, s.signer);
+    let requester = rows::numbered::find_wallet(wallets, count, s.target);
+    let escrow = escrow_named(held, EscrowNumber(s.link));
+    let from = rows::numbered::escrow(edition, escrows, escrow, FROM);
+    let to = rows::numbered::escrow(edition, escrows, escrow, TO);
+    let deadline = rows::numbered::escrow(edition, escrows, escrow, ESCROW_DEADLINE);
+    let state = rows::numbered::escrow(edition, escrows, escrow, ESCROW_STATE);
     let linked = s.link != 0;
     let there = (0 < s.link) & (s.link <= held);
     let recipient_invalid = (s.target == 0) | (s.target == s.signer);
+    let provider_not_found = !(provider.0 <= count as u64);
+    let requester_not_found = !(requester.0 <= count as u64);
     let window_too_short = s.until < s.issued + MIN_ACCEPTANCE_MS;
     let window_too_long = s.issued + MAX_ACCEPTANCE_MS < s.until;
     let deadline_past = s.until < s.now;
@@ -114,8 +129,8 @@ pub fn claim_refusal(
     let r26 = rows::choose(deadline_past, 26, r27);
     let r25 = rows::choose(window_too_long, 25, r26);
     let r24 = rows::choose(window_too_short, 24, r25);
-    let r23 = rows::choose(!(requester < count), 23, r24);
-    let r22 = rows::choose(!(provider < count), 22, r23);
+    let r23 = rows::choose(requester_not_found, 23, r24);
+    let r22 = rows::choose(provider_not_found, 22, r23);
     rows::choose(recipient_invalid, 15, r22)
 }
 
@@ -126,9 +141,9 @@ pub fn reply_refusal(header: &[u64], receipts: &[u64], journal: &[u64], s: Submi
 {
     let count = header[RECEIPTS];
     let entries = header[ENTRIES] as usize;
-    let row = row_of(count, s.target);
-    let requester = rows::get(receipts, RECEIPT_LEN, row, REQUESTER);
-    let state = rows::get(receipts, RECEIPT_LEN, row, RECEIPT_STATE);
+    let receipt = receipt_named(count, ReceiptNumber(s.target));
+    let requester = rows::numbered::receipt(receipts, receipt, REQUESTER);
+    let state = rows::numbered::receipt(receipts, receipt, RECEIPT_STATE);
     let there = (0 < s.target) & (s.target <= count);
     let signer_not_authorized = there & (s.signer != requester);
     let not_pending = there & (state != PENDING);

@@ -43,14 +43,17 @@ hit-still ids n x s r h q = rw q h
 pub indexed-apart : (w : List ℕ) (n : ℕ) (ids t : List ℕ) → Indexed w n ids t → distinct n (λ i. word w WALLET-LEN i ID) ≡ true
 indexed-apart w n ids t c = sym (distinct-ext n (idAt ids) (λ i. word w WALLET-LEN i ID) (c .copied .same)) ∙ c .apart
 
--- the number of a wallet, from a hit, from its first row, and where there is none
+-- the number of a wallet, from its first row, from a search, where there is none, and from a hit
 pub number-row : (w : List ℕ) (n x row : ℕ) → row ≡ rowOf w n x → row < n → row + 1 ≡ numberOf w n x
 unfolding numberOf
 number-row w n x row e h = rw (← e, lt-ltb row n h)
 
-pub number-none : (w : List ℕ) (n x row : ℕ) → row ≡ rowOf w n x → n ≤ row → 0 ≡ numberOf w n x
+pub number-found : (w : List ℕ) (n x number : ℕ) → number ≡ rowOf w n x + 1 → number ≤ n → number ≡ numberOf w n x
+number-found w n x number e h = e ∙ number-row w n x (rowOf w n x) refl (omega arith)
+
+pub number-none : (w : List ℕ) (n x number : ℕ) → number ≡ rowOf w n x + 1 → n < number → 0 ≡ numberOf w n x
 unfolding numberOf
-number-none w n x row e h = rw (← e, le-ltb row n h)
+number-none w n x number e h = let l : n ≤ rowOf w n x = omega arith in rw (le-ltb (rowOf w n x) n l)
 
 pub number-hit : (w : List ℕ) (n : ℕ) (ids t : List ℕ) (x r : ℕ) → Indexed w n ids t → Hit ids n x r → (r ≡ 0 → ⊥) → r ≡ numberOf w n x
 number-hit w n ids t x zero c h z = absurd (z refl)

@@ -7,6 +7,7 @@ ghost use lib.ListN.{length};
 ghost use Rattle.rules.specs.Limits.{WALLET-LEN, MAX-WALLETS};
 ghost use Rattle.rules.specs.Table.{every, distinct};
 ghost use Rattle.index.specs.Index.{NUMBERS, idAt, differs, Copied, Within, Seated, Filled, Hit, Indexed, numberOf, senderOf};
+use rules::WalletNumber;
 use rules::limits::ID;
 use rules::limits::MAX_WALLETS;
 use rules::limits::WALLET_LEN;
@@ -197,8 +198,12 @@ fn look_on(w: &[u64], ids: &[u64; NUMBERS], t: &[u16; PLACES], n: usize, x: u64)
     if a != 0 {
         return a;
     }
-    let row = rows::find_row(w, n, x);
-    if row < n { row + 1 } else { 0 }
+    let wallet = rows::numbered::find_wallet(w, n, x);
+    if wallet.0 <= n as u64 {
+        wallet.0 as usize
+    } else {
+        0
+    }
 }
 
 // What the index proposes by the first steps, if no walk takes more.
@@ -210,7 +215,8 @@ fn proposed(ids: &[u64; NUMBERS], t: &[u16; PLACES], n: usize, most: usize, x: u
 }
 
 // The number of the wallet `from`, if that and `to` have one; else 0. `look_on` stands here twice, and in no function of its own with
-// `proposed`, so that the compiler has the few steps of `near` in line and the rest out of the way.
+// `proposed`, so that the compiler has the few steps of `near` in line and the rest out of the way. Up to here a number is a plain word: a
+// struct from `look_on` would come through memory, for each escrow.
 pub fn sender(
     w: &[u64],
     ids: &[u64; NUMBERS],
@@ -219,9 +225,9 @@ pub fn sender(
     most: usize,
     from: u64,
     to: u64,
-) -> usize
+) -> WalletNumber
     requires { ⌜ Indexed (now w) n (now ids) (now t) ⌝ }
-    ensures { λ r. ⌜ r ≡ senderOf (now (w .entry)) n from to ⌝ }
+    ensures { λ r. ⌜ r .0 ≡ senderOf (now (w .entry)) n from to ⌝ }
 {
     let mut a = proposed(ids, t, n, most, from);
     if a == 0 {
@@ -231,5 +237,9 @@ pub fn sender(
     if b == 0 {
         b = look_on(w, ids, t, n, to);
     }
-    if b == 0 { 0 } else { a }
+    if b != 0 {
+        WalletNumber(a as u64)
+    } else {
+        WalletNumber(0)
+    }
 }

@@ -29,8 +29,8 @@ pub fn freeze_refusal(header: &[u64], wallets: &[u64], journal: &[u64], s: Submi
 {
     let count = header[WALLETS] as usize;
     let entries = header[ENTRIES] as usize;
-    let row = rows::find_row(wallets, count, s.target);
-    let wallet_not_found = (s.target != 0) & !(row < count);
+    let wallet = rows::numbered::find_wallet(wallets, count, s.target);
+    let wallet_not_found = (s.target != 0) & !(wallet.0 <= count as u64);
     let journal_table_full = journal.len() / JOURNAL_LEN <= entries;
     let r40 = rows::choose(journal_table_full, 40, 0);
     rows::choose(wallet_not_found, 16, r40)
@@ -43,10 +43,11 @@ pub fn caps_refusal(header: &[u64], wallets: &[u64], journal: &[u64], s: Submiss
 {
     let count = header[WALLETS] as usize;
     let entries = header[ENTRIES] as usize;
-    let row = rows::find_row(wallets, count, s.target);
+    let wallet = rows::numbered::find_wallet(wallets, count, s.target);
     let amount_out_of_range = (MAX_AMOUNT_MICRO < s.amount) | (MAX_AMOUNT_MICRO < s.link);
+    let wallet_not_found = !(wallet.0 <= count as u64);
     let journal_table_full = journal.len() / JOURNAL_LEN <= entries;
     let r40 = rows::choose(journal_table_full, 40, 0);
-    let r16 = rows::choose(!(row < count), 16, r40);
+    let r16 = rows::choose(wallet_not_found, 16, r40);
     rows::choose(amount_out_of_range, 12, r16)
 }

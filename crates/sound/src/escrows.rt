@@ -74,10 +74,10 @@ fn hold_all(
             return false;
         }
         let from = index::sender(w, ids, t, n, most, e[k * len + FROM], e[k * len + TO]);
-        if from == 0 {
+        if from.0 == 0 {
             return false;
         }
-        sums[from] = sums[from] + held_in(e, len, k);
+        sums[from.0 as usize] = sums[from.0 as usize] + held_in(e, len, k);
         k += 1;
     }
     true

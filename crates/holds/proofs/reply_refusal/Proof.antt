@@ -1,14 +1,15 @@
 -- `holds::reply_refusal` meets its contract.
-use Rattle.holds.proofs.Numbers.{named-small}
+use Rattle.rows.specs.Numbered.{Names}
+use Rattle.holds.proofs.Numbers.{names-row}
 use Rattle.holds.proofs.Reply.{reply-by}
 use borrow.Author.Needs.{needs}
 use Rattle.holds.proofs.reply_refusal.Statement.{statement}
 use Rattle.holds.proofs.reply_refusal.Tie as tie
 use Rattle.holds.proofs.reply_refusal.Reads as reads
 use Rattle.holds.proofs.reply_refusal.Lts as lts
-use Rattle.holds.proofs.row_of.Reads as row-of-reads
+use Rattle.holds.proofs.receipt_named.Reads as receipt-named-reads
 use Rattle.rows.proofs.choose.Reads as choose-reads
-use Rattle.rows.proofs.get.Reads as get-reads
+use Rattle.rows.proofs.numbered.receipt.Reads as receipt-reads
 
 shared-slice-read-count : tie.Need-shared-slice-read-count
 shared-slice-read-count c = search needs
@@ -16,14 +17,18 @@ shared-slice-read-count c = search needs
 shared-slice-read-entries : tie.Need-shared-slice-read-entries
 shared-slice-read-entries c = search needs
 
-row-of-requires : tie.Need-row-of-requires
-row-of-requires c κs = search needs
+receipt-named-requires : tie.Need-receipt-named-requires
+receipt-named-requires c κs = search needs
 
-get-requires : tie.Need-get-requires
-get-requires c κs = (named-small _ _ _ (c .before .before .before .before .before .before .pre .1) (c .row-of .ensures), search needs, search needs)
+-- what is read at is the number of a row
+names : (c : tie.After-receipt-named) → Names (c .receipt-named .result .0)
+names c = names-row _ _ _ (c .before .before .before .before .before .before .pre .1) (c .receipt-named .ensures)
 
-get-requires-2 : tie.Need-get-requires-2
-get-requires-2 c κs = (named-small _ _ _ (c .before .before .before .before .before .before .before .pre .1) (c .before .row-of .ensures), search needs, search needs)
+receipt-requires : tie.Need-receipt-requires
+receipt-requires c κs = (names c, search needs)
+
+receipt-requires-2 : tie.Need-receipt-requires-2
+receipt-requires-2 c κs = (names (c .before), search needs)
 
 choose-requires : tie.Need-choose-requires
 choose-requires c κs = search needs
@@ -43,11 +48,12 @@ choose-requires-5 c κs = search needs
 returns : tie.Need-returns
 returns c =
     let read = c .before .before .before .before .before .before .before .before .before .before in
+    let start = read .before .before .before .before .before .before .before .before in
     λ K. reply-by (K .edition) _ (K .wallets) (K .escrows) _ _ _ _ _ _ _ _ _ _ _
-    (read .before .before .before .before .before .before .before .before .pre .2)
-    (read .before .before .row-of .ensures)
-    (read .before .get .ensures)
-    (read .get2 .ensures)
+    (start .pre .2)
+    (read .before .before .receipt-named .ensures)
+    (read .before .receipt .ensures)
+    (read .receipt2 .ensures)
     (c .before .before .before .before .choose .ensures)
     (c .before .before .before .choose2 .ensures)
     (c .before .before .choose3 .ensures)
@@ -60,9 +66,9 @@ reply-refusal-spec =
     (tie.spec
     shared-slice-read-count
     shared-slice-read-entries
-    row-of-requires
-    get-requires
-    get-requires-2
+    receipt-named-requires
+    receipt-requires
+    receipt-requires-2
     choose-requires
     choose-requires-2
     choose-requires-3

@@ -19,21 +19,22 @@ proposed-requires-2 c κs = search needs
 look-on-requires-2 : tie.Need-look-on-requires-2
 look-on-requires-2 c κs = search needs
 
-of-from : (c : tie.Joined1) → c .if1 .a ≡ numberOf (c .before .before .before .args .w .now) (c .before .before .before .args .n) (c .before .before .before .args .from)
+-- the number that each of the two has
+of-from : (c : tie.Joined1) → let a = c .before .before .before .args in c .if1 .a ≡ numberOf (a .w .now) (a .n) (a .from)
 of-from c =
     ⊎-elim (λ z. z .2 ∙ z .1 .ensures)
     (λ z. z .1 ∙ number-hit _ _ _ _ _ _ (c .before .before .before .pre) (c .before .proposed .ensures) (z .0 .left)) (c .if1 .came)
 
-of-to : (c : tie.Joined2) → c .if2 .b ≡ numberOf (c .before .before .before .before .before .args .w .now) (c .before .before .before .before .before .args .n) (c .before .before .before .before .before .args .to)
+of-to : (c : tie.Joined2) → let a = c .before .before .before .before .before .args in c .if2 .b ≡ numberOf (a .w .now) (a .n) (a .to)
 of-to c =
     ⊎-elim (λ z. z .2 ∙ z .1 .ensures)
     (λ z. z .1 ∙ number-hit _ _ _ _ _ _ (c .before .before .before .before .before .pre) (c .before .proposed2 .ensures) (z .0 .left)) (c .if2 .came)
 
 returns : tie.Need-returns
-returns c = no-recipient _ _ _ _ _ (of-to (c .before)) (c .if3 .taken)
+returns c = a-recipient _ _ _ _ _ _ (of-from (c .before .before .before)) (of-to (c .before)) (c .if3 .taken)
 
 returns-2 : tie.Need-returns-2
-returns-2 c = a-recipient _ _ _ _ _ _ (of-from (c .before .before .before)) (of-to (c .before)) (c .if3 .left)
+returns-2 c = no-recipient _ _ _ _ _ (of-to (c .before)) (c .if3 .left)
 
 pub sender-spec : {M : Type 1} → statement M
 sender-spec =

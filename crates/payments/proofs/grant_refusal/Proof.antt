@@ -7,7 +7,7 @@ use Rattle.payments.proofs.grant_refusal.Reads as reads
 use Rattle.payments.proofs.grant_refusal.Lts as lts
 use Rattle.payments.proofs.sums.exceeds.Reads as exceeds-reads
 use Rattle.rows.proofs.choose.Reads as choose-reads
-use Rattle.rows.proofs.find_row.Reads as find-row-reads
+use Rattle.rows.proofs.numbered.find_wallet.Reads as find-wallet-reads
 
 shared-slice-read-granted : tie.Need-shared-slice-read-granted
 shared-slice-read-granted c = search needs
@@ -18,8 +18,8 @@ shared-slice-read-count c = search needs
 shared-slice-read-entries : tie.Need-shared-slice-read-entries
 shared-slice-read-entries c = search needs
 
-find-row-requires : tie.Need-find-row-requires
-find-row-requires c κs = search needs
+find-wallet-requires : tie.Need-find-wallet-requires
+find-wallet-requires c κs = search needs
 
 exceeds-requires : tie.Need-exceeds-requires
 exceeds-requires c κs = search needs
@@ -41,10 +41,11 @@ choose-requires-5 c κs = search needs
 
 returns : tie.Need-returns
 returns c =
-    let read = c .before .before .before .before .before .before .before .before in
+    let read = c .before .before .before .before .before .before .before .before .before in
+    let start = read .before .before .before .before .before .before .before .before in
     λ K. grant-by (K .edition) _ _ (K .escrows) (K .receipts) _ _ _ _ _ _ _ _ _
-    (read .before .before .before .before .before .before .before .before .pre .2)
-    (read .before .find-row .ensures)
+    (start .pre .2)
+    (read .before .find-wallet .ensures)
     (read .exceeds .ensures)
     (c .before .before .before .before .choose .ensures)
     (c .before .before .before .choose2 .ensures)
@@ -59,7 +60,7 @@ grant-refusal-spec =
     shared-slice-read-granted
     shared-slice-read-count
     shared-slice-read-entries
-    find-row-requires
+    find-wallet-requires
     exceeds-requires
     choose-requires
     choose-requires-2

@@ -1,6 +1,7 @@
 -- `payments::paying_refusal` meets its contract.
 use native.Mathlib.Omega.{arith}
-use Rattle.payments.proofs.Found.{found-small}
+use Rattle.rows.specs.Numbered.{Names}
+use Rattle.rows.proofs.Found.{names-found}
 use Rattle.payments.proofs.Paying.{paying-by}
 use borrow.Author.Needs.{needs}
 use Rattle.payments.proofs.paying_refusal.Statement.{statement}
@@ -10,8 +11,8 @@ use Rattle.payments.proofs.paying_refusal.Lts as lts
 use Rattle.payments.proofs.sums.counted.Reads as counted-reads
 use Rattle.payments.proofs.sums.exceeds.Reads as exceeds-reads
 use Rattle.rows.proofs.choose.Reads as choose-reads
-use Rattle.rows.proofs.find_row.Reads as find-row-reads
-use Rattle.rows.proofs.get.Reads as get-reads
+use Rattle.rows.proofs.numbered.find_wallet.Reads as find-wallet-reads
+use Rattle.rows.proofs.numbered.wallet.Reads as wallet-reads
 
 shared-slice-read-count : tie.Need-shared-slice-read-count
 shared-slice-read-count c = search needs
@@ -22,23 +23,27 @@ shared-slice-read-held c = search needs
 shared-slice-read-entries : tie.Need-shared-slice-read-entries
 shared-slice-read-entries c = search needs
 
-find-row-requires : tie.Need-find-row-requires
-find-row-requires c κs = search needs
+find-wallet-requires : tie.Need-find-wallet-requires
+find-wallet-requires c κs = search needs
 
-find-row-requires-2 : tie.Need-find-row-requires-2
-find-row-requires-2 c κs = search needs
+find-wallet-requires-2 : tie.Need-find-wallet-requires-2
+find-wallet-requires-2 c κs = search needs
 
-get-requires : tie.Need-get-requires
-get-requires c κs = (found-small _ _ _ _ (c .before .before .before .before .before .before .before .before .before .pre .1) (c .find-row2 .ensures), search needs, search needs)
+-- the sender's number is that of a row, or of the one behind the last
+names : (c : tie.After-find-wallet2) → Names (c .find-wallet2 .result .0)
+names c = names-found _ _ _ _ (c .before .before .before .before .before .before .before .before .before .pre .1) (c .find-wallet2 .ensures)
 
-get-requires-2 : tie.Need-get-requires-2
-get-requires-2 c κs = (found-small _ _ _ _ (c .before .before .before .before .before .before .before .before .before .before .pre .1) (c .before .find-row2 .ensures), search needs, search needs)
+wallet-requires : tie.Need-wallet-requires
+wallet-requires c κs = (names c, search needs)
 
-get-requires-3 : tie.Need-get-requires-3
-get-requires-3 c κs = (found-small _ _ _ _ (c .before .before .before .before .before .before .before .before .before .before .before .pre .1) (c .before .before .find-row2 .ensures), search needs, search needs)
+wallet-requires-2 : tie.Need-wallet-requires-2
+wallet-requires-2 c κs = (names (c .before), search needs)
 
-get-requires-4 : tie.Need-get-requires-4
-get-requires-4 c κs = (found-small _ _ _ _ (c .before .before .before .before .before .before .before .before .before .before .before .before .pre .1) (c .before .before .before .find-row2 .ensures), search needs, search needs)
+wallet-requires-3 : tie.Need-wallet-requires-3
+wallet-requires-3 c κs = (names (c .before .before), search needs)
+
+wallet-requires-4 : tie.Need-wallet-requires-4
+wallet-requires-4 c κs = (names (c .before .before .before), search needs)
 
 counted-requires : tie.Need-counted-requires
 counted-requires c κs = search needs
@@ -47,10 +52,14 @@ exceeds-requires : tie.Need-exceeds-requires
 exceeds-requires c κs = search needs
 
 add-deadline-exceeds-max : tie.Need-add-deadline-exceeds-max
-add-deadline-exceeds-max c = omega (arith, c .before .before .before .before .before .before .before .before .before .before .before .before .before .before .before .before .before .before .before .before .before .before .before .before .pre .4)
+add-deadline-exceeds-max c =
+    let read = c .before .before .before .before .before .before .before .before .before .before .before .before .before .before .before .before in
+    omega (arith, read .before .before .before .before .before .before .before .before .before .pre .4)
 
 div-escrow-table-full : tie.Need-div-escrow-table-full
-div-escrow-table-full c = omega (arith, c .before .before .before .before .before .before .before .before .before .before .before .before .before .before .before .before .before .before .before .before .before .before .before .before .before .before .pre .6 .escrow)
+div-escrow-table-full c =
+    let read = c .before .before .before .before .before .before .before .before .before .before .before .before .before .before .before .before .before .before .before in
+    omega (arith, read .before .before .before .before .before .before .before .before .before .pre .6 .escrow)
 
 choose-requires : tie.Need-choose-requires
 choose-requires c κs = search needs
@@ -90,23 +99,26 @@ choose-requires-12 c κs = search needs
 
 returns : tie.Need-returns
 returns c =
-    let read = c .before .before .before .before .before .before .before .before .before .before .before .before .before .before .before .before .before .before .before .before .before .before .before in
+    let late = c .before .before .before .before .before .before in
+    let read = late .before .before .before .before .before .before .before .before .before .before .before .before .before .before .before .before .before .before .before in
+    let found = read .before .before .before .before .before .before in
+    let start = found .before .before .before .before .before .before .before .before .before in
     λ K. paying-by _ _ _ _ (K .receipts) _ _ _ _ _ _ _ _ _ _ _ _ _ _ _ _ _ _ _ _ _ _
-    (read .before .before .before .before .before .before .before .before .before .before .before .before .before .before .before .pre .5)
-    (read .before .before .before .before .before .before .before .find-row .ensures)
-    (read .before .before .before .before .before .before .find-row2 .ensures)
-    (read .before .before .before .before .before .get .ensures)
-    (read .before .before .before .before .get2 .ensures)
-    (read .before .before .before .get3 .ensures)
-    (read .before .before .get4 .ensures)
+    (start .pre .5)
+    (found .before .find-wallet .ensures)
+    (found .find-wallet2 .ensures)
+    (read .before .before .before .before .before .wallet .ensures)
+    (read .before .before .before .before .wallet2 .ensures)
+    (read .before .before .before .wallet3 .ensures)
+    (read .before .before .wallet4 .ensures)
     (read .before .counted .ensures)
     (read .exceeds .ensures)
-    (c .before .before .before .before .before .before .before .before .before .before .before .choose .ensures)
-    (c .before .before .before .before .before .before .before .before .before .before .choose2 .ensures)
-    (c .before .before .before .before .before .before .before .before .before .choose3 .ensures)
-    (c .before .before .before .before .before .before .before .before .choose4 .ensures)
-    (c .before .before .before .before .before .before .before .choose5 .ensures)
-    (c .before .before .before .before .before .before .choose6 .ensures)
+    (late .before .before .before .before .before .choose .ensures)
+    (late .before .before .before .before .choose2 .ensures)
+    (late .before .before .before .choose3 .ensures)
+    (late .before .before .choose4 .ensures)
+    (late .before .choose5 .ensures)
+    (late .choose6 .ensures)
     (c .before .before .before .before .before .choose7 .ensures)
     (c .before .before .before .before .choose8 .ensures)
     (c .before .before .before .choose9 .ensures)
@@ -121,12 +133,12 @@ paying-refusal-spec =
     shared-slice-read-count
     shared-slice-read-held
     shared-slice-read-entries
-    find-row-requires
-    find-row-requires-2
-    get-requires
-    get-requires-2
-    get-requires-3
-    get-requires-4
+    find-wallet-requires
+    find-wallet-requires-2
+    wallet-requires
+    wallet-requires-2
+    wallet-requires-3
+    wallet-requires-4
     counted-requires
     exceeds-requires
     add-deadline-exceeds-max

@@ -86,13 +86,16 @@ returns-8 c = c .reply-refusal .ensures (ledgerOf _ [] _ _ [] [])
 
 returns-9 : tie.Need-returns-9
 returns-9 c =
-    let low : 1 ≤ c .before .before .before .before .before .before .before .args .s .op = op-low (c .before .before .before .before .before .before .before .pre) in
+    let start = c .before .before .before .before .before .before .before in
+    let low : 1 ≤ start .args .s .op = op-low (start .pre) in
     absurd (omega arith)
 
 returns-10 : tie.Need-returns-10
 returns-10 c =
-    let no = c .before .before .before .before .match .rest in
-    absurd (no-more _ (c .if4 .left) (op-high (c .before .before .before .before .before .before .before .before .before .before .pre)) (no .0 .0 .1) (no .0 .1) (no .1))
+    let matched = c .before .before .before .before in
+    let start = matched .before .before .before .before .before .before in
+    let no = matched .match .rest in
+    absurd (no-more _ (c .if4 .left) (op-high (start .pre)) (no .0 .0 .1) (no .0 .1) (no .1))
 
 pub operation-refusal-spec : {M : Type 1} → statement M
 operation-refusal-spec =

@@ -7,7 +7,7 @@ use Rattle.editions.proofs.lookups.wallet_row.Reads as reads
 use Rattle.editions.proofs.lookups.wallet_row.Lts as lts
 use Rattle.rows.proofs.at.Reads as at-reads
 use Rattle.rows.proofs.count_right.Reads as count-right-reads
-use Rattle.rows.proofs.find_row.Reads as find-row-reads
+use Rattle.rows.proofs.numbered.find_wallet.Reads as find-wallet-reads
 
 count-right-requires : tie.Need-count-right-requires
 count-right-requires c κs = search needs
@@ -20,32 +20,26 @@ returns c =
 at-requires : tie.Need-at-requires
 at-requires c κs = search needs
 
-find-row-requires : tie.Need-find-row-requires
-find-row-requires c κs =
+find-wallet-requires : tie.Need-find-wallet-requires
+find-wallet-requires c κs =
     let a = c .before .before .before .before .before .args in
     counted (a .edition) (a .header .now) (a .wallets .now) (a .id) (c .before .before .count-right .ensures) (c .before .if1 .left) (c .at .ensures)
 
-add-t14 : tie.Need-add-t14
-add-t14 c = search needs
-
 returns-2 : tie.Need-returns-2
 returns-2 c =
-    let a = c .before .before .before .before .before .before .before .args in
-    found (a .edition) (a .header .now) (a .wallets .now) (a .id) (c .before .before .before .before .count-right .ensures) (c .before .before .before .if1 .left) (c .before .before .at .ensures) (c .before .find-row .ensures) (c .if2 .taken)
+    let read = c .before .before .before in
+    let tested = read .before .before in
+    let a = tested .before .before .before .args in
+    found (a .edition) (a .header .now) (a .wallets .now) (a .id) (tested .count-right .ensures) (read .before .if1 .left) (read .at .ensures) (c .before .before .find-wallet .ensures) (c .if2 .taken)
 
 returns-3 : tie.Need-returns-3
 returns-3 c =
-    let a = c .before .before .before .before .before .before .before .args in
-    not-found (a .edition) (a .header .now) (a .wallets .now) (a .id) (c .before .before .before .before .count-right .ensures) (c .before .before .before .if1 .left) (c .before .before .at .ensures) (c .before .find-row .ensures) (c .if2 .left)
+    let read = c .before .before .before in
+    let tested = read .before .before in
+    let a = tested .before .before .before .args in
+    not-found (a .edition) (a .header .now) (a .wallets .now) (a .id) (tested .count-right .ensures) (read .before .if1 .left) (read .at .ensures) (c .before .before .find-wallet .ensures) (c .if2 .left)
 
 pub wallet-row-spec : {M : Type 1} → statement M
 wallet-row-spec =
     tie.close
-    (tie.spec
-    count-right-requires
-    returns
-    at-requires
-    find-row-requires
-    add-t14
-    returns-2
-    returns-3)
+    (tie.spec count-right-requires returns at-requires find-wallet-requires returns-2 returns-3)

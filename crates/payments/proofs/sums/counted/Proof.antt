@@ -69,7 +69,9 @@ choose-requires : tie.Need-choose-requires Inv-loop μ-loop
 choose-requires c κs = search needs
 
 add-sum : tie.Need-add-sum Inv-loop μ-loop
-add-sum c = record { fits = counted-fits _ _ _ _ (c .before .before .before .before .before .before .before .before .pre) (c .before .before .before .before .before .before .loop .i) _ _ (search needs) (c .before .before .before .before .before .before .loop .inv .1) (c .choose .ensures) }
+add-sum c =
+    let start = c .before .before .before .before .before .before in
+    record { fits = counted-fits _ _ _ _ (start .before .before .pre) (start .loop .i) _ _ (search needs) (start .loop .inv .1) (c .choose .ensures) }
 
 add-i : tie.Need-add-i Inv-loop μ-loop
 add-i c = search needs
@@ -78,7 +80,9 @@ loop-less : tie.Need-loop-less Inv-loop μ-loop
 loop-less c = search needs
 
 loop-again : tie.Need-loop-again Inv-loop μ-loop
-loop-again c = (search needs, counted-next _ _ _ (c .before .before .before .before .before .before .loop .i) _ _ (c .before .before .before .before .before .before .loop .inv .1) (c .choose .ensures))
+loop-again c =
+    let start = c .before .before .before .before .before .before in
+    (search needs, counted-next _ _ _ (start .loop .i) _ _ (start .loop .inv .1) (c .choose .ensures))
 
 returns : tie.Need-returns Inv-loop μ-loop
 returns c = counted-all _ _ _ _ (c .before .loop .i) _ (search needs) (search needs) (c .before .loop .inv .1)

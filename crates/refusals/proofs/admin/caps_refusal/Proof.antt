@@ -6,7 +6,7 @@ use Rattle.refusals.proofs.admin.caps_refusal.Tie as tie
 use Rattle.refusals.proofs.admin.caps_refusal.Reads as reads
 use Rattle.refusals.proofs.admin.caps_refusal.Lts as lts
 use Rattle.rows.proofs.choose.Reads as choose-reads
-use Rattle.rows.proofs.find_row.Reads as find-row-reads
+use Rattle.rows.proofs.numbered.find_wallet.Reads as find-wallet-reads
 
 shared-slice-read-count : tie.Need-shared-slice-read-count
 shared-slice-read-count c = search needs
@@ -14,8 +14,8 @@ shared-slice-read-count c = search needs
 shared-slice-read-entries : tie.Need-shared-slice-read-entries
 shared-slice-read-entries c = search needs
 
-find-row-requires : tie.Need-find-row-requires
-find-row-requires c κs = search needs
+find-wallet-requires : tie.Need-find-wallet-requires
+find-wallet-requires c κs = search needs
 
 choose-requires : tie.Need-choose-requires
 choose-requires c κs = search needs
@@ -28,9 +28,11 @@ choose-requires-3 c κs = search needs
 
 returns : tie.Need-returns
 returns c =
+    let read = c .before .before .before .before .before .before in
+    let start = read .before .before .before .before .before .before in
     λ K. caps-by (K .edition) _ _ (K .escrows) (K .receipts) _ _ _ _ _ _
-    (c .before .before .before .before .before .before .before .before .before .before .before .pre .2)
-    (c .before .before .before .before .before .find-row .ensures)
+    (start .pre .2)
+    (read .find-wallet .ensures)
     (c .before .before .choose .ensures)
     (c .before .choose2 .ensures)
     (c .choose3 .ensures)
@@ -41,7 +43,7 @@ caps-refusal-spec =
     (tie.spec
     shared-slice-read-count
     shared-slice-read-entries
-    find-row-requires
+    find-wallet-requires
     choose-requires
     choose-requires-2
     choose-requires-3

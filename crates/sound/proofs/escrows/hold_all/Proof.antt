@@ -77,23 +77,31 @@ sender-requires c κs = search needs
 returns-2 : tie.Need-returns-2 Inv-loop μ-loop
 returns-2 c =
     record {
-      right = every-fails _ (c .before .before .before .before .before .before .before .loop .k) _ (search needs) (not-sent _ _ _ _ _ _ (c .before .sender .ensures) (c .if2 .taken));
+      right = every-fails _ (c .before .before .before .before .before .before .before .before .loop .k) _ (search needs) (not-sent _ _ _ _ _ _ (c .before .before .sender .ensures) (c .if2 .taken));
       held = λ z. absurd (false≢true z);
     }
 
 -- both wallets are written
-was-sent : (c : tie.Else2 Inv-loop μ-loop) → Sent (c .before .before .before .before .before .before .before .before .before .before .args .w .now) (c .before .before .before .before .before .before .before .before .before .before .args .n) (word (c .before .before .before .before .before .before .before .before .before .before .args .e .now) (c .before .before .before .before .before .before .before .before .before .before .args .len) (c .before .before .before .before .before .before .before .loop .k) FROM) (word (c .before .before .before .before .before .before .before .before .before .before .args .e .now) (c .before .before .before .before .before .before .before .before .before .before .args .len) (c .before .before .before .before .before .before .before .loop .k) TO) (c .before .sender .result)
-was-sent c = sent _ _ _ _ _ (c .before .sender .ensures) (c .if2 .left)
+was-sent : (c : tie.Else2 Inv-loop μ-loop)
+    → let turn = c .before .before .before .before .before .before .before .before in
+    let a = turn .before .before .before .args in
+    Sent (a .w .now) (a .n) (word (a .e .now) (a .len) (turn .loop .k) FROM) (word (a .e .now) (a .len) (turn .loop .k) TO) (c .before .before .sender .result .0)
+was-sent c = sent _ _ _ _ _ (c .before .before .sender .ensures) (c .if2 .left)
 
 -- the escrow is right
-is-right : (c : tie.Else2 Inv-loop μ-loop) → all (escrowTests (parties (c .before .before .before .before .before .before .before .before .before .before .args .len) (c .before .before .before .before .before .before .before .before .before .before .args .w .now) (c .before .before .before .before .before .before .before .before .before .before .args .n) (c .before .before .before .before .before .before .before .before .before .before .args .e .now) (c .before .before .before .before .before .before .before .before .before .before .args .m)) (c .before .before .before .before .before .before .before .loop .k)) ≡ true
+is-right : (c : tie.Else2 Inv-loop μ-loop)
+    → let turn = c .before .before .before .before .before .before .before .before in
+    let a = turn .before .before .before .args in
+    all (escrowTests (parties (a .len) (a .w .now) (a .n) (a .e .now) (a .m)) (turn .loop .k)) ≡ true
 is-right c =
-    let a = c .before .before .before .before .before .before .before .before .before .before .args in
-    row-right (a .len) (a .w .now) (a .n) (a .e .now) (a .m) (c .before .before .before .before .before .before .before .loop .k) _ _ (c .before .before .before .before .before .escrow-right .ensures) (not-false _ (c .before .before .before .before .if1 .left)) (was-sent c)
+    let tested = c .before .before .before .before .before in
+    let turn = tested .before .before .before in
+    let a = turn .before .before .before .args in
+    row-right (a .len) (a .w .now) (a .n) (a .e .now) (a .m) (turn .loop .k) _ _ (tested .before .escrow-right .ensures) (not-false _ (tested .if1 .left)) (was-sent c)
 
 -- the sender's number is one
-numbered : (c : tie.Else2 Inv-loop μ-loop) → c .before .sender .result ≤ MAX-WALLETS
-numbered c = omega (arith, was-sent c .numbered, sent-row _ _ _ _ _ (was-sent c), c .before .before .before .before .before .before .before .before .before .before .pre .0 .few)
+numbered : (c : tie.Else2 Inv-loop μ-loop) → c .before .before .sender .result .0 ≤ MAX-WALLETS
+numbered c = omega (arith, was-sent c .numbered, sent-row _ _ _ _ _ (was-sent c), c .before .before .before .before .before .before .before .before .before .before .before .pre .0 .few)
 
 mul-sums : tie.Need-mul-sums Inv-loop μ-loop
 mul-sums c = omega (arith, numbered c)
@@ -102,13 +110,16 @@ element-copy-out-sums : tie.Need-element-copy-out-sums Inv-loop μ-loop
 element-copy-out-sums c = omega (arith, numbered c)
 
 held-in-requires : tie.Need-held-in-requires Inv-loop μ-loop
-held-in-requires c κs = row-here (c .before .before .before .before .before .before .before)
+held-in-requires c κs = row-here (c .before .before .before .before .before .before .before .before)
 
 add-sums : tie.Need-add-sums Inv-loop μ-loop
 add-sums c =
     let d = c .before .before in
-    let l = c .before .before .before .before .before .before .before .before .before .loop in
-    omega (arith, sums-fit _ _ _ _ (c .before .before .before .before .before .before .before .before .before .before .before .before .args .m) (l .k) _ _ _ _ _ (l .inv .2) (l .inv .1) (is-right d) (was-sent d) (omega (arith, c .before .before .before .before .before .before .before .before .before .before .before .before .pre .0 .fewer)) (c .held-in .ensures))
+    let more = d .before .before .before .before .before .before .before in
+    let turn = more .before in
+    let l = turn .loop in
+    let start = turn .before .before .before in
+    omega (arith, sums-fit _ _ _ _ (start .args .m) (l .k) _ _ _ _ _ (l .inv .2) (l .inv .1) (is-right d) (was-sent d) (omega (arith, more .loop-test .taken, start .pre .0 .fewer)) (c .held-in .ensures))
 
 mul-sums-2 : tie.Need-mul-sums-2 Inv-loop μ-loop
 mul-sums-2 c = omega (arith, numbered (c .before .before))
@@ -125,8 +136,9 @@ loop-less c = search needs
 loop-again : tie.Need-loop-again Inv-loop μ-loop
 loop-again c =
     let d = c .before .before in
-    let l = c .before .before .before .before .before .before .before .before .before .loop in
-    let p = c .before .before .before .before .before .before .before .before .before .before .before .before .pre in (
+    let turn = d .before .before .before .before .before .before .before .before in
+    let l = turn .loop in
+    let p = turn .before .before .before .pre in (
       search needs,
       every-on _ _ (l .inv .1) (is-right d),
       held-more _ _ _ _ _ _ _ _ _ (l .inv .2) (indexed-apart _ _ _ _ (p .1)) (p .0 .few) (was-sent d) (c .held-in .ensures),
