@@ -16,6 +16,8 @@ pub enum Begin {
     Fresh,
     /// A sound ledger that is lent as it stands.
     Lent,
+    /// The same with about half of each table written.
+    HalfFull,
     /// The same with every table full or one row short of it.
     NearlyFull,
 }
@@ -70,6 +72,17 @@ impl History {
         }
     }
 
+    /// The same of steps that mostly settle.
+    pub fn settling(begin: Begin, sizes: Sizes, dice: &mut Dice, length: usize) -> History {
+        let steps = (0..length).map(|_| Step::settling(dice)).collect();
+        History {
+            begin,
+            sizes,
+            seed: dice.word(),
+            steps,
+        }
+    }
+
     /// The tables before the first step.
     pub fn world(&self) -> World {
         let mut dice = Dice::new(self.seed);
@@ -77,6 +90,7 @@ impl History {
         let filled = match self.begin {
             Begin::Fresh => return noise(dice, self.sizes),
             Begin::Lent => Filled::roll(dice, self.sizes),
+            Begin::HalfFull => Filled::half(self.sizes),
             Begin::NearlyFull => Filled::nearly_full(dice, self.sizes),
         };
         sound(dice, self.sizes, filled)

@@ -9,7 +9,8 @@
 //! breaks them in one clause at a time and [`damage`] anywhere.
 //! - [`twin`] does the calls and compares; a [`history`] is a start and steps. [`shrink`] makes a
 //! difference that it found small.
-//! - [`plan`] puts these together into a run of a given length from a given seed.
+//! - [`plan`] puts these together into a run of a given length from a given seed, of one [`mix`] or
+//! the other.
 
 #![forbid(unsafe_code)]
 #![warn(missing_docs)]
@@ -21,6 +22,7 @@ pub mod dice;
 pub mod history;
 mod knobs;
 pub mod lookups;
+pub mod mix;
 pub mod plan;
 pub mod record;
 pub mod shrink;

@@ -1,18 +1,19 @@
-//! `differential [--seed S] [--submissions N]`: compares the core with the second program until N
-//! submissions are done, and prints which answers were reached. Without arguments it is the short
-//! run.
+//! `differential [--mix limits|settling] [--seed S] [--submissions N]`: compares the core with the
+//! second program until N submissions are done, and prints which answers were reached. Without
+//! arguments it is the short run.
 
 #![forbid(unsafe_code)]
 
 use std::env;
 use std::process::ExitCode;
 
-use differential::plan::{run, SHORT_SEED, SHORT_SUBMISSIONS};
+use differential::mix::{Goal, Mix};
+use differential::plan::{run, Plan, SHORT};
 use differential::tally::Tally;
 
 fn main() -> ExitCode {
-    let (seed, submissions) = match arguments(env::args().skip(1)) {
-        Ok(numbers) => numbers,
+    let plan = match arguments(env::args().skip(1)) {
+        Ok(plan) => plan,
         Err(line) => {
             eprintln!("differential: {line}");
             return ExitCode::from(2);
@@ -25,16 +26,19 @@ fn main() -> ExitCode {
             eprintln!("{told} submissions");
         }
     };
-    match run(seed, submissions, &mut report) {
+    match run(plan, &mut report) {
         Ok(tally) => {
-            println!("seed {seed}\n{tally}");
+            println!("{plan}\n{tally}");
             let forbidden = tally.forbidden();
             if !forbidden.is_empty() {
                 println!("reached, but not listed (operation, answer): {forbidden:?}");
             }
-            ExitCode::from(u8::from(
-                !tally.missing().is_empty() || !forbidden.is_empty(),
-            ))
+            let goals = plan.mix.goals(&tally);
+            for goal in &goals {
+                println!("{goal}");
+            }
+            let reached = tally.missing().is_empty() && goals.iter().all(Goal::is_reached);
+            ExitCode::from(u8::from(!reached || !forbidden.is_empty()))
         }
         Err(failure) => {
             println!("difference: {failure}");
@@ -43,20 +47,26 @@ fn main() -> ExitCode {
     }
 }
 
-fn arguments(mut words: impl Iterator<Item = String>) -> Result<(u64, u64), String> {
-    let (mut seed, mut submissions) = (SHORT_SEED, SHORT_SUBMISSIONS);
+fn arguments(mut words: impl Iterator<Item = String>) -> Result<Plan, String> {
+    let mut plan = SHORT;
     while let Some(word) = words.next() {
-        let place = match word.as_str() {
-            "--seed" => &mut seed,
-            "--submissions" => &mut submissions,
-            _ => return Err(format!("{word:?} is neither --seed nor --submissions")),
-        };
-        let number = words
-            .next()
-            .ok_or_else(|| format!("{word} needs a number"))?;
-        *place = number
-            .parse()
-            .map_err(|_| format!("{word} {number:?} is no number"))?;
+        let mut value = || words.next().ok_or_else(|| format!("{word} needs a value"));
+        match word.as_str() {
+            "--mix" => plan.mix = mix(&value()?)?,
+            "--seed" => plan.seed = number(&word, &value()?)?,
+            "--submissions" => plan.submissions = number(&word, &value()?)?,
+            _ => return Err(format!("{word:?} is not --mix, --seed or --submissions")),
+        }
     }
-    Ok((seed, submissions))
+    Ok(plan)
+}
+
+fn mix(name: &str) -> Result<Mix, String> {
+    Mix::named(name).ok_or_else(|| format!("--mix {name:?} is neither limits nor settling"))
+}
+
+fn number(word: &str, digits: &str) -> Result<u64, String> {
+    digits
+        .parse()
+        .map_err(|_| format!("{word} {digits:?} is no number"))
 }

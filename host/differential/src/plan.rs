@@ -8,19 +8,38 @@ use crate::clauses::{Change, BREAKS, LIMITS};
 use crate::codec;
 use crate::damage::{lengthen, scatter};
 use crate::dice::Dice;
-use crate::history::{Begin, History};
+use crate::history::History;
 use crate::lookups;
+use crate::mix::Mix;
 use crate::shrink::shrink;
 use crate::start::{small_sizes, sound, Filled};
 use crate::step::Step;
 use crate::tally::Tally;
 use crate::twin::{Difference, Twin, World};
 
-/// The seed of the short run.
-pub const SHORT_SEED: u64 = 1;
+/// A run.
+#[derive(Clone, Copy, Debug)]
+pub struct Plan {
+    /// Which histories.
+    pub mix: Mix,
+    /// Decides all that is left to chance.
+    pub seed: u64,
+    /// How many submissions at least.
+    pub submissions: u64,
+}
 
-/// The submissions of the short run.
-pub const SHORT_SUBMISSIONS: u64 = 200_000;
+impl fmt::Display for Plan {
+    fn fmt(&self, f: &mut fmt::Formatter<'_>) -> fmt::Result {
+        write!(f, "mix {}, seed {}", self.mix, self.seed)
+    }
+}
+
+/// The short run.
+pub const SHORT: Plan = Plan {
+    mix: Mix::Limits,
+    seed: 1,
+    submissions: 200_000,
+};
 
 /// A difference, and how to see it again.
 #[derive(Debug)]
@@ -32,13 +51,13 @@ impl fmt::Display for Failure {
     }
 }
 
-/// Runs until this many submissions have been compared, and stops at the first difference.
-pub fn run(seed: u64, submissions: u64, report: &mut dyn FnMut(&Tally)) -> Result<Tally, Failure> {
+/// Runs until the submissions have been compared, and stops at the first difference.
+pub fn run(plan: Plan, report: &mut dyn FnMut(&Tally)) -> Result<Tally, Failure> {
     let mut tally = Tally::default();
     let mut round = 0;
-    while tally.submissions() < submissions {
-        one_round(seed, round, &mut tally)
-            .map_err(|Failure(story)| Failure(format!("seed {seed}, round {round}: {story}")))?;
+    while tally.submissions() < plan.submissions {
+        one_round(plan, round, &mut tally)
+            .map_err(|Failure(story)| Failure(format!("{plan}, round {round}: {story}")))?;
         round += 1;
         report(&tally);
     }
@@ -46,21 +65,11 @@ pub fn run(seed: u64, submissions: u64, report: &mut dyn FnMut(&Tally)) -> Resul
 }
 
 /// Everything once: histories, lent ledgers, broken ones, wrong lengths, codec and statuses.
-fn one_round(seed: u64, round: u64, tally: &mut Tally) -> Result<(), Failure> {
-    let mut dice = Dice::new(seed.wrapping_mul(0x1_0000_0001).wrapping_add(round));
-    let dice = &mut dice;
-    for _ in 0..4 {
-        play(&History::roll(dice, 120), tally)?;
-    }
-    if round % 8 == 0 {
-        let begin = dice.pick(&[Begin::Fresh, Begin::Lent]);
-        play(&History::of(begin, Sizes::PROGRAM, dice, 200), tally)?;
-    }
-    if round % 64 == 1 {
-        play(
-            &History::of(Begin::NearlyFull, Sizes::LARGEST, dice, 12),
-            tally,
-        )?;
+fn one_round(plan: Plan, round: u64, tally: &mut Tally) -> Result<(), Failure> {
+    let seed = plan.seed.wrapping_mul(0x1_0000_0001).wrapping_add(round);
+    let dice = &mut Dice::new(seed);
+    for history in plan.mix.histories(round, dice) {
+        play(&history, tally)?;
     }
     let (broken, kept) = (Outcome::Damaged, Outcome::Sound);
     if round % 64 == 2 {

@@ -112,7 +112,7 @@ fn plainer_start(small: &mut Small, test: Test<'_>) {
     let plainer: &[Begin] = match small.history.begin {
         Begin::Fresh => &[],
         Begin::Lent => &[Begin::Fresh],
-        Begin::NearlyFull => &[Begin::Fresh, Begin::Lent],
+        Begin::HalfFull | Begin::NearlyFull => &[Begin::Fresh, Begin::Lent],
     };
     for &begin in plainer {
         let candidate = History {

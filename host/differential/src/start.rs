@@ -17,6 +17,16 @@ pub fn small_sizes(dice: &mut Dice) -> Sizes {
     }
 }
 
+/// Sizes of some more rows, so that there is room for most of what settles in a history.
+pub fn roomy_sizes(dice: &mut Dice) -> Sizes {
+    Sizes {
+        wallets: dice.between(4, 16) as usize,
+        escrows: dice.between(16, 64) as usize,
+        receipts: dice.between(16, 96) as usize,
+        journal: dice.between(64, 512) as usize,
+    }
+}
+
 /// Tables of words by chance, as unwritten rows may hold anything.
 pub fn noise(dice: &mut Dice, sizes: Sizes) -> World {
     let mut world = Tables::zeros(sizes);
@@ -59,6 +69,15 @@ impl Filled {
         let escrows = if wallets < 2 { 0 } else { part(sizes.escrows) };
         Filled {
             counts: [wallets, escrows, part(sizes.receipts), part(sizes.journal)],
+        }
+    }
+
+    /// Half of each table.
+    pub fn half(sizes: Sizes) -> Filled {
+        let wallets = sizes.wallets / 2;
+        let escrows = if wallets < 2 { 0 } else { sizes.escrows / 2 };
+        Filled {
+            counts: [wallets, escrows, sizes.receipts / 2, sizes.journal / 2],
         }
     }
 

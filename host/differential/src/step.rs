@@ -63,6 +63,35 @@ impl Step {
         } else {
             dice.pick(&often)
         };
+        Step::of(op, dice, wild)
+    }
+
+    /// A step by chance that settles more often than not: few knobs are not plain, and the clock
+    /// mostly moves by little.
+    pub fn settling(dice: &mut Dice) -> Step {
+        let ops = [
+            0, 0, 1, 1, 1, 2, 2, 2, 2, 3, 4, 5, 5, 5, 5, 5, 6, 6, 6, 7, 7, 8, 10,
+        ];
+        let op = match dice.below(64) {
+            0 => 9,
+            1 => 11,
+            2 => 12,
+            _ => dice.pick(&ops),
+        };
+        let wild = dice.pick(&[0, 0, 0, 1]);
+        let mut step = Step::of(op, dice, wild);
+        if step.tick != 0 && !dice.once_in(6) {
+            step.tick = dice.between(1, 4) as u8;
+        }
+        // One dispute in six gives no reason.
+        if op == 7 && dice.once_in(6) {
+            step.flags = 5;
+        }
+        step
+    }
+
+    /// A step of this operation by chance.
+    fn of(op: u8, dice: &mut Dice, wild: u64) -> Step {
         let mut knob = |bound| {
             if dice.below(16) < wild {
                 dice.below(bound) as u8

@@ -5,12 +5,15 @@ use std::fmt;
 /// The highest answer number.
 pub const LAST_ANSWER: usize = 40;
 const OPERATIONS: usize = 11;
+const SWEEP: usize = 9;
 
 /// Counts by operation and answer. Row 0 is for records whose operation byte is none.
 #[derive(Clone, Debug)]
 pub struct Tally {
     counts: [[u64; LAST_ANSWER + 1]; OPERATIONS + 1],
     submissions: u64,
+    /// Submissions to tables that all have their most rows.
+    pub on_largest: u64,
     /// Other calls that were compared: starts, reads, writes, lookups, statuses.
     pub other_calls: u64,
 }
@@ -20,6 +23,7 @@ impl Default for Tally {
         Tally {
             counts: [[0; LAST_ANSWER + 1]; OPERATIONS + 1],
             submissions: 0,
+            on_largest: 0,
             other_calls: 0,
         }
     }
@@ -98,6 +102,7 @@ impl Tally {
             }
         }
         self.submissions += other.submissions;
+        self.on_largest += other.on_largest;
         self.other_calls += other.other_calls;
     }
 }
@@ -108,6 +113,13 @@ impl fmt::Display for Tally {
             f,
             "{} submissions, {} other calls, no difference",
             self.submissions, self.other_calls
+        )?;
+        let (settled, sweeps) = (self.of_answer(0), self.counts[SWEEP][0]);
+        let share = 100.0 * settled as f64 / self.submissions.max(1) as f64;
+        writeln!(
+            f,
+            "{settled} settled ({share:.1} %), of those {sweeps} sweeps; {} on the largest tables",
+            self.on_largest
         )?;
         writeln!(f, "answer: times given (by operation)")?;
         for answer in 0..=LAST_ANSWER {

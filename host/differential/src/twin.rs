@@ -3,7 +3,7 @@
 use std::fmt;
 use std::panic::{catch_unwind, AssertUnwindSafe};
 
-use milebeacon::{ffi, Tables};
+use milebeacon::{ffi, Sizes, Tables};
 
 use crate::tally::Tally;
 
@@ -46,6 +46,14 @@ pub fn slices(world: &World) -> [&[u64]; 5] {
         &world.receipts,
         &world.journal,
     ]
+}
+
+/// Whether each table has the most rows that it may have.
+fn is_largest(world: &World) -> bool {
+    let most = Sizes::LARGEST;
+    let rows = [1, most.wallets, most.escrows, most.receipts, most.journal];
+    let mut tables = slices(world).into_iter().zip(ROW_WORDS).zip(rows);
+    tables.all(|((table, words), rows)| table.len() == words * rows)
 }
 
 /// The tables as the second program is lent them.
@@ -118,6 +126,7 @@ impl Twin {
         let answer = same("answer and word", (answer.number, answer.word), second)?;
         self.compare()?;
         tally.count(record, answer.0);
+        tally.on_largest += u64::from(is_largest(&self.core));
         Ok(answer)
     }
 

@@ -1,15 +1,32 @@
-//! The seeded short run: no difference, and every answer that the rules list is reached.
+//! The seeded short runs: no difference, and every answer that the rules list is reached.
 
-use differential::plan::{run, SHORT_SEED, SHORT_SUBMISSIONS};
+use differential::mix::Mix;
+use differential::plan::{run, Plan, SHORT};
 
-#[test]
-fn short_run_finds_no_difference_and_reaches_every_answer() {
-    let tally = run(SHORT_SEED, SHORT_SUBMISSIONS, &mut |_| {}).unwrap_or_else(|f| panic!("{f}"));
-    println!("seed {SHORT_SEED}\n{tally}");
+fn finds_no_difference_and_reaches_all(plan: Plan) {
+    let tally = run(plan, &mut |_| {}).unwrap_or_else(|f| panic!("{f}"));
+    println!("{plan}\n{tally}");
     assert_eq!(tally.missing(), [], "not reached");
     assert_eq!(
         tally.forbidden(),
         [],
         "an answer that the rules do not list for the operation"
     );
+    for goal in plan.mix.goals(&tally) {
+        assert!(goal.is_reached(), "{goal}");
+    }
+}
+
+#[test]
+fn short_run_finds_no_difference_and_reaches_every_answer() {
+    finds_no_difference_and_reaches_all(SHORT);
+}
+
+#[test]
+fn short_run_of_what_settles_does_so_too_and_comes_to_its_goals() {
+    finds_no_difference_and_reaches_all(Plan {
+        mix: Mix::Settling,
+        submissions: 100_000,
+        ..SHORT
+    });
 }
