@@ -1,5 +1,6 @@
 -- `moves::ensure_wallet` meets its contract: the wallet is there, or its row is added.
 use Rattle.moves.proofs.Wallets.{ensured-found, ensured-new}
+use native.Mathlib.Omega.{arith}
 use borrow.Author.Needs.{needs}
 use Rattle.moves.proofs.ensure_wallet.Statement.{statement}
 use Rattle.moves.proofs.ensure_wallet.Tie as tie
@@ -16,7 +17,7 @@ same-length c = search needs
 returns : tie.Need-returns
 returns c =
     let number = c .before .before .find-wallet .ensures in
-    (number, λ K. ensured-found K _ _ _ _ number (c .if1 .taken))
+    (number, λ K. ensured-found K _ _ _ _ number (omega (arith, c .if1 .taken)))
 
 slice-aggregate-append : tie.Need-slice-aggregate-append
 slice-aggregate-append c = search needs
@@ -34,7 +35,7 @@ returns-2 : tie.Need-returns-2
 returns-2 c =
     let added = c .before .before .before .before in
     let number = added .before .before .before .before .before .before .find-wallet .ensures in
-    (number, λ K. ensured-new K _ _ _ _ _ _ number (added .before .before .before .before .if1 .left) (added .append .ensures .1) (added .append .ensures .2))
+    (number, λ K. ensured-new K _ _ _ _ _ _ number (omega (arith, c .before .before .before .before .before .before .before .before .if1 .left)) (added .append .ensures .1) (added .append .ensures .2))
 
 pub ensure-wallet-spec : {M : Type 1} → statement M
 ensure-wallet-spec =
