@@ -12,7 +12,7 @@ use Rattle.rules.specs.Lookup.{countRight, partAt, walletNumber}
 use Rattle.rules.specs.declared.Edition.{Edition}
 use Rattle.rules.proofs.Bools.{or-none-fst, or-none-snd, not-false-true}
 use Rattle.rows.specs.Part.{placed}
-use Rattle.rows.proofs.Part.{count-fits}
+use Rattle.rules.proofs.Places.{count-fits}
 use Rattle.rows.proofs.Found.{there-found}
 
 -- a part at a place that was worked out

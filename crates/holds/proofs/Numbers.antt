@@ -3,10 +3,8 @@ use mathlib.Core.Path.{_≡_, refl}
 use mathlib.Core.Bool.{Bool, true, false, cond, _&&_}
 use Prim.Native.Nat.{ℕ, _-_, _≤_}
 use native.Mathlib.Omega.{arith}
-use lib.Dec.{ltb, leb}
-use borrow.Author.Tests.{ltb-true, leb-true}
 use Rattle.rules.specs.Ledger.{written}
-use Rattle.rules.proofs.Bools.{and-fst, and-snd}
+use Rattle.rules.proofs.Tests.{written-low, written-high}
 use Rattle.rows.specs.Numbered.{Names}
 use Rattle.holds.specs.Named.{named}
 
@@ -18,8 +16,8 @@ names-row n k number few e = go (written n k) refl
     go : (t : Bool) → written n k ≡ t → Names number
     go true x =
         let y : number ≡ k = rw x at e in
-        let low = ltb-true 0 k (and-fst (ltb 0 k) (leb k n) x) in
-        let high = leb-true k n (and-snd (ltb 0 k) (leb k n) x) in
+        let low = written-low n k x in
+        let high = written-high n k x in
         record { low = omega arith; high = omega arith }
     go false x =
         let y : number ≡ 1 = rw x at e in

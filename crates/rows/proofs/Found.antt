@@ -1,5 +1,5 @@
 -- The number that a search for a wallet gives, one more than a row: which row it names, whether it is written, and that it is small.
-use mathlib.Core.Path.{_≡_, refl, sym}
+use mathlib.Core.Path.{_≡_, refl}
 use mathlib.Core.List.{List}
 use mathlib.Core.Bool.{Bool, true, false}
 use Prim.Native.Nat.{ℕ, _+_, _-_, _≤_}

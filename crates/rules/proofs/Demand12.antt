@@ -9,9 +9,9 @@ use native.Mathlib.Omega.{arith}
 use lib.ListN.{getD, length, take, drop, length-take, length-drop}
 use lib.Seq.{drop-length, take-nil}
 use lib.Dec.{eqb, ltb, lit≤}
-use borrow.Author.Tests.{ltb-true, leb-true}
+use borrow.Author.Tests.{ltb-true}
 use Rattle.rules.specs.Limits.{RECORD-BYTES, WALLETS, ESCROWS, RECEIPTS, WALLET-LEN, RECEIPT-LEN, MAX-WALLETS, MAX-ESCROWS, MAX-RECEIPTS}
-use Rattle.rules.specs.Table.{rowsIn, tableRight}
+use Rattle.rules.specs.Table.{rowsIn}
 use Rattle.rules.specs.Ledger.{Ledger, Outcome, outcome, rowOf, written, lengthsRight, fresh, freshHeader, setHeader}
 use Rattle.rules.specs.Record.{wellFormed, encode, accepted, decode, readOf, nothing, Written, writeOf}
 use Rattle.rules.specs.Refusals.{refusals}
@@ -22,8 +22,7 @@ use Rattle.rules.specs.Promises.{started, IsFirst, On-the-list, Refusal-
 use Rattle.rules.specs.Promises.{Part-answers, Settles-exactly, First-refusal, Laid-down}
 use Rattle.rules.specs.declared.Read.{Read}
 use Rattle.rules.proofs.Bools.{and-fst, and-snd, cond-case}
-use Rattle.rules.proofs.Rows.{room}
-use Rattle.rules.proofs.Tests.{written-low, written-high}
+use Rattle.rules.proofs.Places.{count-within, row-whole}
 use Rattle.rules.proofs.Refused.{first-most, first-of, none-of-zero, zero-of-none, table-most, table-numbered}
 use Rattle.rules.proofs.Calls.{by-answer, number-is}
 
@@ -87,28 +86,6 @@ write-answers s out =
     cond-case (λ (w : Written). (w .number ≡ 0) ⊎ ((w .number ≡ 3) × (w .out ≡ out))) (eqb (length out) RECORD-BYTES && wellFormed s)
     (record { number = 0; out = encode s }) (record { number = 3; out = out }) (λ e. inl refl) (λ e. inr (refl, refl))
 
--- a number that names a written row, where the count is within the table
-count-within : (headerLen c len most : ℕ) (header t : List ℕ) (x : Bool) → countRight headerLen c len most header t && x ≡ true → getD header c 0 ≤ rowsIn len t
-count-within headerLen c len most header t x h =
-    leb-true (getD header c 0) (rowsIn len t)
-    (and-snd (tableRight len most t) _ (and-snd (eqb (length header) headerLen) _ (and-fst (countRight headerLen c len most header t) x h)))
-
--- such a row is whole
-row-whole : (headerLen c len most : ℕ) (header t : List ℕ) (k : ℕ) → countRight headerLen c len most header t && written (getD header c 0) k ≡ true → (k - 1) * len + len ≤ length t
-row-whole headerLen c len most header t k e =
-    let w : written (getD header c 0) k ≡ true = and-snd (countRight headerLen c len most header t) _ e in
-    let low : 1 ≤ k = written-low (getD header c 0) k w in
-    let high : k ≤ getD header c 0 = written-high (getD header c 0) k w in
-    let fits : getD header c 0 ≤ rowsIn len t = count-within headerLen c len most header t (written (getD header c 0) k) e in
-    room len (k - 1) t (omega arith)
-
--- a place is in the table, or at its end
-pub place-within : (headerLen c len most : ℕ) (header t : List ℕ) (k : ℕ) → rowPlace headerLen c len most header t k ≤ length t
-unfolding rowPlace
-place-within headerLen c len most header t k =
-    cond-case (λ (p : ℕ). p ≤ length t) (countRight headerLen c len most header t && written (getD header c 0) k) ((k - 1) * len) (length t)
-    (λ e. let r = row-whole headerLen c len most header t k e in omega (arith, r)) (λ e. omega arith)
-
 -- the part of a table from a place on is empty at the table's end, and whole where a row starts
 part-or-none : (headerLen c len most : ℕ) (header t : List ℕ) (k : ℕ)
     → (partAt len t (rowPlace headerLen c len most header t k) ≡ []) ⊎ (length (partAt len t (rowPlace headerLen c len most header t k)) ≡ len)
@@ -136,7 +113,7 @@ part-answers e header t k = (
 
     found : countRight (e .header) WALLETS WALLET-LEN MAX-WALLETS header t && (not (eqb k 0) && ltb r n) ≡ true → r + 1 ≤ rowsIn WALLET-LEN t
     found h =
-        let fits : n ≤ rowsIn WALLET-LEN t = count-within (e .header) WALLETS WALLET-LEN MAX-WALLETS header t (not (eqb k 0) && ltb r n) h in
+        let fits : n ≤ rowsIn WALLET-LEN t = count-within (e .header) WALLETS WALLET-LEN MAX-WALLETS header t (and-fst (countRight (e .header) WALLETS WALLET-LEN MAX-WALLETS header t) _ h) in
         let low : r < n =
         ltb-true r n (and-snd (not (eqb k 0)) (ltb r n) (and-snd (countRight (e .header) WALLETS WALLET-LEN MAX-WALLETS header t) _ h)) in
         omega arith

@@ -26,6 +26,7 @@ pub mod Cases
 -- the refusals, the replay guard, the sweep, and that sound stays
 pub mod Refused
 pub mod Calls
+pub mod Places
 pub mod Demand12
 pub mod Keeps
 pub mod Lengths

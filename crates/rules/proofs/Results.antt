@@ -15,7 +15,8 @@ use Rattle.rules.specs.Status.{statuses}
 use Rattle.rules.specs.Promises.{IsFirst, Refused}
 use Rattle.rules.specs.Results.{Result, by-fresh, by-submit, by-read, by-write, by-status, by-wallet, by-escrow-place, by-escrow-row, by-receipt-place, by-receipt-row, Meets, Listed, Decided, DecidedBy}
 use Rattle.rules.specs.declared.Read.{Read}
-use Rattle.rules.proofs.Demand12.{on-the-list, refusal-changes-nothing, fresh-answers, read-answers, write-answers, part-answers, place-within, settles-exactly, first-refusal, laid-down}
+use Rattle.rules.proofs.Places.{place-within}
+use Rattle.rules.proofs.Demand12.{on-the-list, refusal-changes-nothing, fresh-answers, read-answers, write-answers, part-answers, settles-exactly, first-refusal, laid-down}
 
 -- ---- a start afresh
 

@@ -1,6 +1,5 @@
 // Settles the records on standard input on a fresh ledger of 64 wallets, 128 escrows, 128 receipts and 512 journal rows. A line for each:
 // its ordinal, the answer, the word. Then the granted total.
-ghost use mathlib.Core.Path.{_≡_};
 use libc::STDIN_FILENO;
 use libc::STDOUT_FILENO;
 use rules::limits::GRANTED;

@@ -1,12 +1,13 @@
 -- `rows::row_place` meets its contract.
 use mathlib.Core.Path.{_≡_}
 use mathlib.Core.Bool.{true, _&&_}
-use Prim.Native.Nat.{_+_, _-_, _*_, _≤_, _<_}
+use Prim.Native.Nat.{_+_, _-_, _*_, _≤_}
 use native.Mathlib.Omega.{arith}
 use lib.ListN.{getD, length}
 use Rattle.rules.specs.Ledger.{written}
 use Rattle.rules.specs.Lookup.{countRight}
-use Rattle.rows.proofs.Part.{within, row-by, place-there, place-none}
+use Rattle.rules.proofs.Places.{row-from-1, row-whole}
+use Rattle.rows.proofs.Part.{row-by, place-there, place-none}
 use borrow.Author.Needs.{needs}
 use Rattle.rows.proofs.row_place.Statement.{statement}
 use Rattle.rows.proofs.row_place.Tie as tie
@@ -25,10 +26,12 @@ there c =
     let a = c .before .before .before .before .before .args in
     row-by (a .header-len) (a .c) (a .len) (a .most) (a .header .now) (a .t .now) (a .number) (c .before .before .count-right .ensures) (c .before .at .ensures) (c .if1 .taken)
 
-fits : (c : tie.Then1) → let a = c .before .before .before .before .before .args in (0 < a .number) × ((a .number - 1) * a .len + a .len ≤ length (a .t .now))
+fits : (c : tie.Then1) → let a = c .before .before .before .before .before .args in (1 ≤ a .number) × ((a .number - 1) * a .len + a .len ≤ length (a .t .now))
 fits c =
-    let a = c .before .before .before .before .before .args in
-    within (a .header-len) (a .c) (a .len) (a .most) (a .header .now) (a .t .now) (a .number) (there c)
+    let a = c .before .before .before .before .before .args in (
+      row-from-1 (a .header-len) (a .c) (a .len) (a .most) (a .header .now) (a .t .now) (a .number) (there c),
+      row-whole (a .header-len) (a .c) (a .len) (a .most) (a .header .now) (a .t .now) (a .number) (there c),
+    )
 
 count-right-requires : tie.Need-count-right-requires
 count-right-requires c κs = search needs

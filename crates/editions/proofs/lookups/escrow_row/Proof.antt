@@ -1,7 +1,7 @@
 -- `editions::lookups::escrow_row` meets its contract.
 use native.Mathlib.Omega.{arith}
 use Rattle.rules.specs.Limits.{MAX-ESCROWS, ESCROWS}
-use Rattle.rows.proofs.Part.{place-le}
+use Rattle.rules.proofs.Places.{place-within}
 use Rattle.editions.proofs.Parts.{part-by}
 use borrow.Author.Needs.{needs}
 use Rattle.editions.proofs.lookups.escrow_row.Statement.{statement}
@@ -17,7 +17,7 @@ escrow-place-requires c κs = search needs
 row-part-requires : tie.Need-row-part-requires
 row-part-requires c κs =
     let a = c .before .before .before .args in
-    (search needs, omega (arith, place-le (a .edition .header) ESCROWS (a .edition .escrow) MAX-ESCROWS (a .header .now) (a .escrows .now) (a .n .0)))
+    (search needs, omega (arith, place-within (a .edition .header) ESCROWS (a .edition .escrow) MAX-ESCROWS (a .header .now) (a .escrows .now) (a .n .0)))
 
 returns : tie.Need-returns
 returns c =

@@ -1,7 +1,7 @@
 -- `editions::lookups::receipt_row` meets its contract.
 use native.Mathlib.Omega.{arith}
 use Rattle.rules.specs.Limits.{RECEIPT-LEN, MAX-RECEIPTS, RECEIPTS}
-use Rattle.rows.proofs.Part.{place-le}
+use Rattle.rules.proofs.Places.{place-within}
 use Rattle.editions.proofs.Parts.{part-by}
 use borrow.Author.Needs.{needs}
 use Rattle.editions.proofs.lookups.receipt_row.Statement.{statement}
@@ -17,7 +17,7 @@ receipt-place-requires c κs = search needs
 row-part-requires : tie.Need-row-part-requires
 row-part-requires c κs =
     let a = c .before .before .before .args in
-    (search needs, omega (arith, place-le (a .edition .header) RECEIPTS RECEIPT-LEN MAX-RECEIPTS (a .header .now) (a .receipts .now) (a .n .0)))
+    (search needs, omega (arith, place-within (a .edition .header) RECEIPTS RECEIPT-LEN MAX-RECEIPTS (a .header .now) (a .receipts .now) (a .n .0)))
 
 returns : tie.Need-returns
 returns c =
