@@ -1,5 +1,5 @@
 -- `index::seat_for` meets its contract. The loop's invariant: the walk has come to p, with `left` steps.
-use mathlib.Core.Path.{sym, _∙_}
+use mathlib.Core.Path.{_≡_, sym, _∙_}
 use lib.ListN.{getD}
 use native.Mathlib.Omega.{arith}
 use Prim.Native.Nat.{ℕ, _≤_, _<_}
