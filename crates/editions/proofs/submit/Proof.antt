@@ -1,6 +1,11 @@
 -- `editions::submit` meets its contract: at each early answer the stages before it were passed and this one was not, so the definition answers the
 -- same (Submits.antt); at the end none refused, and what settling left is the definition's.
-use mathlib.Core.Path.{sym, _∙_}
+use mathlib.Core.Path.{_≡_, sym, _∙_}
+use mathlib.Core.Bool.{true}
+use Rattle.rules.specs.Ledger.{Ledger, lengthsRight}
+use Rattle.rules.specs.Moments.{tables}
+use Rattle.rules.specs.Record.{wellFormed}
+use Rattle.rules.specs.Sound.{sound}
 use Rattle.rules.proofs.Bools.{not-true-false, not-false-true}
 use Rattle.editions.proofs.Submits.{read-well, bad-table, damaged, malformed, checked, settled, as-refused}
 use borrow.Author.Needs.{needs}
@@ -14,6 +19,32 @@ use Rattle.record.proofs.read_record.Reads as read-record-reads
 use Rattle.refusals.proofs.refusal.Reads as refusal-reads
 use Rattle.settling.proofs.settle.Reads as settle-reads
 use Rattle.sound.proofs.is_sound.Reads as is-sound-reads
+
+-- ---- what the stages that were passed have shown; each is found from the one behind it
+
+abbrev lengths-stage : tie.Else2 → tie.Else1
+lengths-stage c = c .before .before .before .before .before .before .before
+
+abbrev sound-stage : tie.Else3 → tie.Else2
+sound-stage c = c .before .before .before
+
+abbrev read-stage : tie.Else4 → tie.Else3
+read-stage c = c .before .before .before .before .before .before .before .before
+
+-- the tables that it is lent
+abbrev L : tie.Else1 → Ledger
+L c = let a = c .before .before .before .before .before .before .before .before .before .before .before .before .before .args in tables (a .edition) (a .header) (a .wallets) (a .escrows) (a .receipts) (a .journal)
+
+lengths : (c : tie.Else1) → lengthsRight (L c) ≡ true
+lengths c = sym (c .before .lengths-right .ensures) ∙ not-false-true _ (c .if1 .left)
+
+is-right : (c : tie.Else2) → sound (L (lengths-stage c)) ≡ true
+is-right c = sym (c .before .is-sound .ensures) ∙ not-false-true _ (c .if2 .left)
+
+formed : (c : tie.Else3) → wellFormed (c .before .before .read-record .result .submission) ≡ true
+formed c = read-well _ (c .before .before .read-record .ensures) (c .if3 .left)
+
+-- ---- the needs
 
 lengths-right-requires : tie.Need-lengths-right-requires
 lengths-right-requires c κs = search needs
@@ -42,7 +73,9 @@ returns c =
     (bad-table _ _ (sym (c .before .before .lengths-right .ensures) ∙ not-true-false _ (c .before .if1 .taken)))
 
 is-sound-requires : tie.Need-is-sound-requires
-is-sound-requires c κs = (sym (c .before .before .before .before .before .before .lengths-right .ensures) ∙ not-false-true _ (c .before .before .before .before .before .if1 .left), c .before .before .before .before .before .before .before .before .before .before .before .before .before .before .before .before .before .before .pre)
+is-sound-requires c κs =
+    let passed = c .before .before .before .before .before in
+    (lengths passed, passed .before .before .before .before .before .before .before .before .before .before .before .before .before .pre)
 
 refused-requires-2 : tie.Need-refused-requires-2
 refused-requires-2 c κs = search needs
@@ -65,8 +98,7 @@ same-length-10 c = search needs
 returns-2 : tie.Need-returns-2
 returns-2 c =
     as-refused _ _ _ _ _ (c .refused2 .ensures .0) (c .refused2 .ensures .1)
-    (damaged _ _ (sym (c .before .before .before .before .before .before .before .before .before .lengths-right .ensures) ∙ not-false-true _ (c .before .before .before .before .before .before .before .before .if1 .left))
-    (sym (c .before .before .is-sound .ensures) ∙ not-true-false _ (c .before .if2 .taken)))
+    (damaged _ _ (lengths (c .before .before .before .before .before .before .before .before)) (sym (c .before .before .is-sound .ensures) ∙ not-true-false _ (c .before .if2 .taken)))
 
 read-record-requires : tie.Need-read-record-requires
 read-record-requires c κs = search needs
@@ -91,17 +123,15 @@ same-length-15 c = search needs
 
 returns-3 : tie.Need-returns-3
 returns-3 c =
+    let passed = c .before .before .before .before in
     as-refused _ _ _ _ _ (c .refused3 .ensures .0) (c .refused3 .ensures .1)
-    (malformed _ _ (sym (c .before .before .before .before .before .before .before .before .before .before .before .before .lengths-right .ensures) ∙ not-false-true _ (c .before .before .before .before .before .before .before .before .before .before .before .if1 .left))
-    (sym (c .before .before .before .before .before .is-sound .ensures) ∙ not-false-true _ (c .before .before .before .before .if2 .left)) _ (c .before .before .before .read-record .ensures) (c .before .if3 .taken))
+    (malformed _ _ (lengths (lengths-stage passed)) (is-right passed) _ (c .before .before .before .read-record .ensures) (c .before .if3 .taken))
 
 refusal-requires : tie.Need-refusal-requires
-refusal-requires c κs = record {
-  sized = c .before .before .before .before .before .before .before .before .before .before .before .before .before .before .before .before .before .before .before .before .before .before .before .before .before .before .before .before .before .pre;
-  lengths = sym (c .before .before .before .before .before .before .before .before .before .before .before .before .before .before .before .before .before .lengths-right .ensures) ∙ not-false-true _ (c .before .before .before .before .before .before .before .before .before .before .before .before .before .before .before .before .if1 .left);
-  right = sym (c .before .before .before .before .before .before .before .before .before .before .is-sound .ensures) ∙ not-false-true _ (c .before .before .before .before .before .before .before .before .before .if2 .left);
-  formed = read-well _ (c .before .before .before .before .before .before .before .before .read-record .ensures) (c .before .before .before .before .before .before .if3 .left);
-}
+refusal-requires c κs =
+    let passed = c .before .before .before .before .before .before in
+    let right = sound-stage passed in
+    record { sized = lengths-stage right .before .before .before .before .before .before .before .before .before .before .before .before .before .pre; lengths = lengths (lengths-stage right); right = is-right right; formed = formed passed }
 
 refused-requires-4 : tie.Need-refused-requires-4
 refused-requires-4 c κs = search needs
@@ -123,19 +153,24 @@ same-length-20 c = search needs
 
 returns-4 : tie.Need-returns-4
 returns-4 c =
+    let passed = c .before .before .before .before .before .before .before .before .before in
+    let right = sound-stage passed in
     as-refused _ _ _ _ _ (c .refused4 .ensures .0) (c .refused4 .ensures .1)
-    (checked _ _ (sym (c .before .before .before .before .before .before .before .before .before .before .before .before .before .before .before .before .before .before .before .before .lengths-right .ensures) ∙ not-false-true _ (c .before .before .before .before .before .before .before .before .before .before .before .before .before .before .before .before .before .before .before .if1 .left))
-    (sym (c .before .before .before .before .before .before .before .before .before .before .before .before .before .is-sound .ensures) ∙ not-false-true _ (c .before .before .before .before .before .before .before .before .before .before .before .before .if2 .left)) _ (c .before .before .before .before .before .before .before .before .before .before .before .read-record .ensures) (c .before .before .before .before .before .before .before .before .before .if3 .left)
-    _ (c .before .before .refusal .ensures) (c .before .if4 .taken))
+    (checked _ _ (lengths (lengths-stage right)) (is-right right) _ (passed .before .before .read-record .ensures) (passed .if3 .left) _
+    (c .before .before .refusal .ensures) (c .before .if4 .taken))
 
 settle-requires : tie.Need-settle-requires
-settle-requires c κs = record {
-  sized = c .before .before .before .before .before .before .before .before .before .before .before .before .before .before .before .before .before .before .before .before .before .before .before .before .before .before .before .before .before .before .before .before .before .before .before .before .pre;
-  lengths = sym (c .before .before .before .before .before .before .before .before .before .before .before .before .before .before .before .before .before .before .before .before .before .before .before .before .lengths-right .ensures) ∙ not-false-true _ (c .before .before .before .before .before .before .before .before .before .before .before .before .before .before .before .before .before .before .before .before .before .before .before .if1 .left);
-  is-sound = sym (c .before .before .before .before .before .before .before .before .before .before .before .before .before .before .before .before .before .is-sound .ensures) ∙ not-false-true _ (c .before .before .before .before .before .before .before .before .before .before .before .before .before .before .before .before .if2 .left);
-  formed = read-well _ (c .before .before .before .before .before .before .before .before .before .before .before .before .before .before .before .read-record .ensures) (c .before .before .before .before .before .before .before .before .before .before .before .before .before .if3 .left);
-  passed = sym (c .before .before .before .before .before .before .refusal .ensures) ∙ c .before .before .before .before .before .if4 .left;
-}
+settle-requires c κs =
+    let passed = c .before .before .before .before .before in
+    let read = read-stage passed in
+    let right = sound-stage read in
+    record {
+      sized = lengths-stage right .before .before .before .before .before .before .before .before .before .before .before .before .before .pre;
+      lengths = lengths (lengths-stage right);
+      is-sound = is-right right;
+      formed = formed read;
+      passed = sym (passed .before .refusal .ensures) ∙ passed .if4 .left;
+    }
 
 same-length-21 : tie.Need-same-length-21
 same-length-21 c = search needs
@@ -154,9 +189,12 @@ same-length-25 c = search needs
 
 returns-5 : tie.Need-returns-5
 returns-5 c =
-    settled _ _ (sym (c .before .before .before .before .before .before .before .before .before .before .before .before .before .before .before .before .before .before .before .before .before .before .before .before .before .before .before .before .before .before .before .before .before .before .before .lengths-right .ensures) ∙ not-false-true _ (c .before .before .before .before .before .before .before .before .before .before .before .before .before .before .before .before .before .before .before .before .before .before .before .before .before .before .before .before .before .before .before .before .before .before .if1 .left))
-    (sym (c .before .before .before .before .before .before .before .before .before .before .before .before .before .before .before .before .before .before .before .before .before .before .before .before .before .before .before .before .is-sound .ensures) ∙ not-false-true _ (c .before .before .before .before .before .before .before .before .before .before .before .before .before .before .before .before .before .before .before .before .before .before .before .before .before .before .before .if2 .left)) _ (c .before .before .before .before .before .before .before .before .before .before .before .before .before .before .before .before .before .before .before .before .before .before .before .before .before .before .read-record .ensures) (c .before .before .before .before .before .before .before .before .before .before .before .before .before .before .before .before .before .before .before .before .before .before .before .before .if3 .left)
-    (sym (c .before .before .before .before .before .before .before .before .before .before .before .before .before .before .before .before .before .refusal .ensures) ∙ c .before .before .before .before .before .before .before .before .before .before .before .before .before .before .before .before .if4 .left) _ _ (c .before .before .before .before .before .before .before .before .before .before .settle .ensures)
+    let done = c .before .before .before .before .before .before .before .before .before .before in
+    let passed = done .before .before .before .before .before .before in
+    let read = read-stage passed in
+    let right = sound-stage read in
+    settled _ _ (lengths (lengths-stage right)) (is-right right) _ (read .before .before .read-record .ensures) (read .if3 .left)
+    (sym (passed .before .refusal .ensures) ∙ passed .if4 .left) _ _ (done .settle .ensures)
 
 pub submit-spec : {M : Type 1} → statement M
 submit-spec =
