@@ -5,6 +5,7 @@ use lib.Dec.{lit<, lit≤}
 use denote.Ref.{now}
 use Rattle.rules.specs.Ledger.{Ledger, first-edition}
 use Rattle.rules.specs.Moments.{Slice, tables}
+use Rattle.rules.specs.Record.{readOf}
 use Rattle.rules.specs.Results.{Ran, exits, pair, Result, by-fresh, by-submit, by-read, by-write, by-status, by-wallet, by-escrow-place, by-escrow-row, by-receipt-place, by-receipt-row, Meets}
 use Rattle.rules.specs.Runs.{Surface, Calls-are-listed, Calls-decide, Runs-add-up, Runs-refuse-retries}
 use Rattle.rules.proofs.Runs.{calls-are-listed, calls-decide, runs-add-up, runs-refuse-retries}
@@ -14,6 +15,10 @@ use Rattle.record.proofs.read_record.Kinds as read-kinds
 use Rattle.record.proofs.read_record.Reads as read-reads
 use Rattle.record.proofs.write_record.Kinds as write-kinds
 use Rattle.record.proofs.write_record.Reads as write-reads
+use Rattle.record.proofs.trips.write_read.Kinds as write-read-kinds
+use Rattle.record.proofs.trips.write_read.Reads as write-read-reads
+use Rattle.record.proofs.trips.read_write.Kinds as read-write-kinds
+use Rattle.record.proofs.trips.read_write.Reads as read-write-reads
 use Rattle.ledger.proofs.fresh.Kinds as fresh-kinds
 use Rattle.ledger.proofs.fresh.Reads as fresh-reads
 use Rattle.ledger.proofs.submit.Kinds as submit-kinds
@@ -39,6 +44,8 @@ pub data Did : Type 0 where
   did-submit : Ran submit-kinds.ps submit-kinds.r submit-reads.Learnt → Did
   did-read : Ran read-kinds.ps read-kinds.r read-reads.Learnt → Did
   did-write : Ran write-kinds.ps write-kinds.r write-reads.Learnt → Did
+  did-write-read : Ran write-read-kinds.ps write-read-kinds.r write-read-reads.Learnt → Did
+  did-read-write : Ran read-write-kinds.ps read-write-kinds.r read-write-reads.Learnt → Did
   did-status : Ran status-kinds.ps status-kinds.r status-reads.Learnt → Did
   did-wallet : Ran wallet-kinds.ps wallet-kinds.r wallet-reads.Learnt → Did
   did-escrow-place : Ran escrow-place-kinds.ps escrow-place-kinds.r escrow-place-reads.Learnt → Did
@@ -46,12 +53,15 @@ pub data Did : Type 0 where
   did-receipt-place : Ran receipt-place-kinds.ps receipt-place-kinds.r receipt-place-reads.Learnt → Did
   did-receipt-row : Ran receipt-row-kinds.ps receipt-row-kinds.r receipt-row-reads.Learnt → Did
 
--- what it was lent, left, asked and answered: its parameters at entry and at exit, in the order of the source
+-- what it was lent, left, asked and answered: its parameters at entry and at exit, in the order of the source. A round trip is shown by its
+-- second half.
 abbrev pub shows : Did → Result
 shows (did-fresh x) = by-fresh (five (x .args)) (five (exits x)) (x .answer)
 shows (did-submit x) = by-submit (five (x .args)) (five (exits x)) (now (x .args .1 .1 .1 .1 .1 .0)) (x .answer .number) (x .answer .word)
 shows (did-read x) = by-read (now (x .args .0)) (x .answer)
 shows (did-write x) = by-write (x .args .0) (now (x .args .1 .0)) (now (exits x .1 .0)) (x .answer)
+shows (did-write-read x) = by-read (now (exits x .1 .0)) (x .answer)
+shows (did-read-write x) = by-write (readOf (now (x .args .0)) .submission) (now (x .args .1 .0)) (now (exits x .1 .0)) (x .answer)
 shows (did-status x) = by-status (x .args .0) (x .answer)
 shows (did-wallet x) = by-wallet (pair (now (x .args .0)) (now (x .args .1 .0))) (pair (now (exits x .0)) (now (exits x .1 .0))) (x .args .1 .1 .0) (x .answer .0)
 shows (did-escrow-place x) =
@@ -69,6 +79,8 @@ meets (did-fresh x) = (refl, x .meets)
 meets (did-submit x) = (refl, x .meets)
 meets (did-read x) = x .meets
 meets (did-write x) = x .meets
+meets (did-write-read x) = x .meets .1
+meets (did-read-write x) = x .meets .0
 meets (did-status x) = x .meets
 meets (did-wallet x) = (refl, x .meets)
 meets (did-escrow-place x) = (refl, x .meets)
