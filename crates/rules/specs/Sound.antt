@@ -34,13 +34,16 @@ headerTests L =
 abbrev pub walletTests : Ledger → ℕ → List Bool
 walletTests L i = not (eqb (wallet L i ID) 0) ∷ flag (wallet L i FROZEN) ∷ []
 
--- two different written wallets, an amount, times, a state
-abbrev pub escrowTests : Ledger → ℕ → List Bool
-escrowTests L i =
-    hasWallet L (escrow L i FROM) ∷ hasWallet L (escrow L i TO) ∷ not (eqb (escrow L i FROM) (escrow L i TO))
+-- an escrow by itself: two different wallets, an amount, times, a state; and both wallets are written
+abbrev pub escrowAloneTests : Ledger → ℕ → List Bool
+escrowAloneTests L i =
+    not (eqb (escrow L i FROM) (escrow L i TO))
     ∷ between 1 MAX-AMOUNT-MICRO (escrow L i ESCROW-AMOUNT)
     ∷ time (escrow L i ESCROW-DEADLINE) ∷ time (escrow L i OPENED-AT) ∷ time (escrow L i ESCROW-CLOSED-AT)
     ∷ between 1 4 (escrow L i ESCROW-STATE) ∷ []
+
+abbrev pub escrowTests : Ledger → ℕ → List Bool
+escrowTests L i = hasWallet L (escrow L i FROM) ∷ hasWallet L (escrow L i TO) ∷ escrowAloneTests L i
 
 -- a link is 0, or a written escrow from the requester to the provider
 abbrev pub linkRight : Ledger → ℕ → Bool

@@ -1,19 +1,19 @@
 -- One escrow more: whether it is right, from its own row and from what a look-up of its two wallets answers; and what it adds to the sums.
 use mathlib.Core.Path.{_≡_, refl, sym, ap, _∙_}
 use mathlib.Core.Bool.{Bool, true, false, cond, _&&_}
-use mathlib.Core.List.{List}
+use mathlib.Core.List.{List, _∷_}
 use Prim.Native.Nat.{ℕ, _+_, _*_, _≤_, _<_}
 use native.Mathlib.Omega.{arith}
 use native.Mathlib.Nat.{le-refl}
 use native.Mathlib.Decide.{ℕ-discrete}
 use lib.Dec.{eqb, ltb}
-use lib.ListN.{getD, set, length-set, drop}
+use lib.ListN.{getD, set, length-set}
 use lib.Seq.{getD-set-same, getD-set-other}
 use borrow.Author.Tests.{eq-eqb, ne-eqb, ltb-true}
 use Rattle.rules.specs.Limits.{WALLET-LEN, MAX-WALLETS, MAX-ESCROWS, MAX-AMOUNT-MICRO, ID, FROM, TO, ESCROW-AMOUNT, ESCROW-STATE, IS-OPEN}
 use Rattle.rules.specs.Table.{word, all, every, distinct, sum}
 use Rattle.rules.specs.Ledger.{rowOf}
-use Rattle.rules.specs.Sound.{escrowTests, heldIn}
+use Rattle.rules.specs.Sound.{escrowAloneTests, escrowTests, heldIn}
 use Rattle.rules.proofs.Bools.{and-intro, and-none-snd}
 use Rattle.rules.proofs.Counts.{every-at, sum-step, sum-most}
 use Rattle.rules.proofs.Tests.{escrow-says}
@@ -56,16 +56,16 @@ module _ (len : ℕ) (w : List ℕ) (n : ℕ) (e : List ℕ) (m : ℕ) where
   right k = all (escrowTests (parties len w n e m) k)
 
   -- of its own row, and of all
-  pub row-wrong : (k : ℕ) (b : Bool) → b ≡ all (drop 2 (escrowTests (parties len e 0 e 0) k)) → b ≡ false → right k ≡ false
+  pub row-wrong : (k : ℕ) (b : Bool) → b ≡ all (escrowAloneTests (parties len e 0 e 0) k) → b ≡ false → right k ≡ false
   row-wrong k b x z =
-      and-none-snd (ltb (rowOf w n (word e len k FROM)) n) (all (drop 1 (escrowTests (parties len w n e m) k)))
-      (and-none-snd (ltb (rowOf w n (word e len k TO)) n) (all (drop 2 (escrowTests (parties len w n e m) k))) (sym x ∙ z))
+      and-none-snd (ltb (rowOf w n (word e len k FROM)) n) (all (ltb (rowOf w n (word e len k TO)) n ∷ escrowAloneTests (parties len w n e m) k))
+      (and-none-snd (ltb (rowOf w n (word e len k TO)) n) (all (escrowAloneTests (parties len w n e m) k)) (sym x ∙ z))
 
-  pub row-right : (k number : ℕ) (b : Bool) → b ≡ all (drop 2 (escrowTests (parties len e 0 e 0) k)) → b ≡ true
+  pub row-right : (k number : ℕ) (b : Bool) → b ≡ all (escrowAloneTests (parties len e 0 e 0) k) → b ≡ true
       → Sent w n (word e len k FROM) (word e len k TO) number → right k ≡ true
   row-right k number b x z s =
-      and-intro (ltb (rowOf w n (word e len k FROM)) n) (all (drop 1 (escrowTests (parties len w n e m) k))) (s .sender)
-      (and-intro (ltb (rowOf w n (word e len k TO)) n) (all (drop 2 (escrowTests (parties len w n e m) k))) (s .recipient) (sym x ∙ z))
+      and-intro (ltb (rowOf w n (word e len k FROM)) n) (all (ltb (rowOf w n (word e len k TO)) n ∷ escrowAloneTests (parties len w n e m) k)) (s .sender)
+      (and-intro (ltb (rowOf w n (word e len k TO)) n) (all (escrowAloneTests (parties len w n e m) k)) (s .recipient) (sym x ∙ z))
 
   -- an amount that is right is within its limit
   pub amount-most : (k : ℕ) → right k ≡ true → word e len k ESCROW-AMOUNT ≤ MAX-AMOUNT-MICRO

@@ -3,10 +3,10 @@ ghost use mathlib.Core.Path.{_≡_};
 ghost use mathlib.Core.Bool.{true, cond};
 ghost use Prim.Native.Nat.{_+_, _*_, _≤_};
 ghost use lib.Dec.{eqb};
-ghost use lib.ListN.{length, drop};
+ghost use lib.ListN.{length};
 ghost use Rattle.rules.specs.Limits.{ESCROW-LEN, WALLET-LEN, MAX-WALLETS, IS-OPEN, ESCROW-STATE, ESCROW-AMOUNT};
 ghost use Rattle.rules.specs.Table.{word, all, every};
-ghost use Rattle.rules.specs.Sound.{escrowTests};
+ghost use Rattle.rules.specs.Sound.{escrowAloneTests};
 ghost use Rattle.index.specs.Index.{Indexed};
 ghost use Rattle.sound.specs.Parts.{parties, Tables, Held, HeldAll, lockedIs, partiesRight};
 use index::NUMBERS;
@@ -28,7 +28,7 @@ use rules::limits::WALLET_LEN;
 // What an escrow's own row shows.
 fn escrow_right(e: &[u64], len: usize, k: usize) -> bool
     requires { ⌜ (k * len + len ≤ length (now e)) × (ESCROW-LEN ≤ len) ⌝ }
-    ensures { λ r. ⌜ r ≡ all (drop 2 (escrowTests (parties len (now (e .entry)) 0 (now (e .entry)) 0) k)) ⌝ }
+    ensures { λ r. ⌜ r ≡ all (escrowAloneTests (parties len (now (e .entry)) 0 (now (e .entry)) 0) k) ⌝ }
 {
     let at = k * len;
     let amount = e[at + ESCROW_AMOUNT];
