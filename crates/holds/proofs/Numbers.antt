@@ -8,7 +8,7 @@ use Rattle.rules.proofs.Tests.{written-low, written-high}
 use Rattle.rows.specs.Numbered.{Names}
 use Rattle.holds.specs.Named.{named}
 
--- it names a row: the number itself, or 1
+-- it names a row: the number itself, or 1. 4096 is the most rows of escrows, and of receipts
 pub names-row : (n k number : ℕ) → n ≤ 4096 → number ≡ named n k → Names number
 unfolding named
 names-row n k number few e = go (written n k) refl
