@@ -6,6 +6,7 @@ ghost use Rattle.rules.specs.Limits.{ESCROW-LEN, RECEIPT-LEN};
 ghost use Rattle.rules.specs.Table.{all, every};
 ghost use Rattle.rules.specs.Sound.{linkRight, receiptTests};
 ghost use Rattle.sound.specs.Parts.{receiptsIn};
+use rules::EscrowNumber;
 use rules::limits::ACCEPTANCE_DEADLINE;
 use rules::limits::AUTO_ACCEPT;
 use rules::limits::CLAIMED_AT;
@@ -21,11 +22,15 @@ use rules::limits::RECEIPT_STATE;
 use rules::limits::REQUESTER;
 use rules::limits::TO;
 
-// The row of a number; for 0 row 0, which is read and not used, so that the test of 0, which no one can foresee, is no branch.
-fn row_at(number: usize) -> usize
-    ensures { λ r. ⌜ r ≡ number - 1 ⌝ }
+// The row of an escrow's number; for 0 row 0, which is read and not used, so that the test of 0, which no one can foresee, is no branch.
+fn row_at(number: EscrowNumber) -> usize
+    ensures { λ r. ⌜ r ≡ number .0 - 1 ⌝ }
 {
-    if number == 0 { 0 } else { number - 1 }
+    if number.0 == 0 {
+        0
+    } else {
+        number.0 as usize - 1
+    }
 }
 
 // A link is 0, or a written escrow from the requester to the provider.
@@ -34,11 +39,11 @@ fn link_right(e: &[u64], len: usize, m: usize, r: &[u64], k: usize) -> bool
     ensures { λ x. ⌜ x ≡ linkRight (receiptsIn len (now (e .entry)) m (now (r .entry))) k ⌝ }
 {
     let at = k * RECEIPT_LEN;
-    let link = r[at + RECEIPT_LINK] as usize;
-    if m < link {
+    let link = r[at + RECEIPT_LINK];
+    if m < link as usize {
         return false;
     }
-    let row = row_at(link);
+    let row = row_at(EscrowNumber(link));
     (link == 0)
         | ((e[row * len + FROM] == r[at + REQUESTER]) & (e[row * len + TO] == r[at + PROVIDER]))
 }
