@@ -10,9 +10,13 @@ pub mod Settle
 pub mod Submit
 pub mod Lookup
 pub mod Status
+pub mod Recording
+pub mod Replay
 pub mod History
 pub mod Due
 pub mod Promises
+pub mod Same
+pub mod Agreement
 pub mod Results
 pub mod Runs
 pub mod Cases

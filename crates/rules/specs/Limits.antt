@@ -83,6 +83,29 @@ MARK-0 = 0xA7
 abbrev pub MARK-1 : ℕ
 MARK-1 = 0x3C
 
+-- the bytes of a recording's entry: a record, one byte of answer, eight bytes of answer word; and where these two stand
+abbrev pub ENTRY-BYTES : ℕ
+ENTRY-BYTES = 117
+
+abbrev pub ANSWER-AT : ℕ
+ANSWER-AT = 108
+
+abbrev pub WORD-AT : ℕ
+WORD-AT = 109
+
+-- what a replay found, as a number; 0 where nothing was replayed
+abbrev pub NOT-REPLAYED : ℕ
+NOT-REPLAYED = 0
+
+abbrev pub ALL-AGREE : ℕ
+ALL-AGREE = 1
+
+abbrev pub CUT-SHORT : ℕ
+CUT-SHORT = 2
+
+abbrev pub DISAGREES : ℕ
+DISAGREES = 3
+
 -- words of the header
 abbrev pub EDITION : ℕ
 EDITION = 0

@@ -41,6 +41,28 @@ pub struct Answer {
     pub word: u64,
 }
 
+// What a replay of a recording finds.
+pub enum Found {
+    // The tables have a wrong length.
+    WrongLength,
+    // Every entry agrees, and how many there were.
+    AllAgree(u64),
+    // So many agree, and the next one is cut short.
+    CutShort(u64),
+    // The entry that disagrees, counted from 1; its recorded answer, and the core's.
+    Disagrees(u64, Answer, Answer),
+}
+
+// The same as numbers: the answer's, the finding's, how many entries were replayed, and both answers to the last of these if it disagrees.
+#[repr(C)]
+pub struct Verdict {
+    pub number: u64,
+    pub finding: u64,
+    pub replayed: u64,
+    pub recorded: Answer,
+    pub answered: Answer,
+}
+
 // What an edition fixes: its number, and the words of a header and of an escrow row.
 pub struct Edition {
     pub number: u64,

@@ -54,6 +54,22 @@ pub const MARK_0: u8 = 0xA7;
 
 pub const MARK_1: u8 = 0x3C;
 
+// The bytes of a recording's entry: a record, one byte of answer, eight bytes of answer word; and where these two stand.
+pub const ENTRY_BYTES: usize = 117;
+
+pub const ANSWER_AT: usize = 108;
+
+pub const WORD_AT: usize = 109;
+
+// What a replay found, as a number across `extern "C"`; 0 where nothing was replayed.
+pub const NOT_REPLAYED: u64 = 0;
+
+pub const ALL_AGREE: u64 = 1;
+
+pub const CUT_SHORT: u64 = 2;
+
+pub const DISAGREES: u64 = 3;
+
 // Words of the header.
 pub const EDITION: usize = 0;
 
