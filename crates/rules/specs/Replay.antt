@@ -86,6 +86,9 @@ verdictOf (AllAgree n) = verdict 0 ALL-AGREE n (answer 0 0) (answer 0 0)
 verdictOf (CutShort n) = verdict 0 CUT-SHORT n (answer 0 0) (answer 0 0)
 verdictOf (Disagrees k recorded answered) = verdict 0 DISAGREES k recorded answered
 
+abbrev pub told : Gone Found → Gone Verdict
+told g = gone (verdictOf (g .found)) (g .left)
+
 -- ---- What a core records
 
 -- the entries that records make, submitted one after the other from a ledger on, and the ledger that they leave

@@ -1,6 +1,7 @@
 -- Section "Lent tables", the sentence "A ledger is sound if": each of its clauses is a test here.
+use mathlib.Core.Path.{_≡_}
 use mathlib.Core.List.{List, [], _∷_}
-use mathlib.Core.Bool.{Bool, not, cond, _&&_, _||_}
+use mathlib.Core.Bool.{Bool, true, not, cond, _&&_, _||_}
 use Prim.Native.Nat.{ℕ, _+_, _-_}
 use lib.Dec.{eqb, leb}
 use Rattle.rules.specs.Limits.{WALLET-LEN, RECEIPT-LEN, JOURNAL-LEN, LAST-TIME-MS, MAX-AMOUNT-MICRO, MAX-GRANTED-MICRO, TRANSFER, OPEN}
@@ -9,7 +10,7 @@ use Rattle.rules.specs.Limits.{FROM, TO, ESCROW-AMOUNT, ESCROW-DEADLINE,
 use Rattle.rules.specs.Limits.{PROVIDER, REQUESTER, RECEIPT-LINK, ACCEPTANCE-DEADLINE, AUTO-ACCEPT, RECEIPT-STATE, CLAIMED-AT, RECEIPT-CLOSED-AT}
 use Rattle.rules.specs.Limits.{OPERATION, ENTRY-AMOUNT, SETTLED-AT}
 use Rattle.rules.specs.Table.{rowsIn, all, every, distinct, sum}
-use Rattle.rules.specs.Ledger.{Ledger, head, wallet, escrow, receipt, entry, walletCount, escrowCount, receiptCount, entryCount, hasWallet, written}
+use Rattle.rules.specs.Ledger.{Ledger, head, wallet, escrow, receipt, entry, walletCount, escrowCount, receiptCount, entryCount, hasWallet, written, lengthsRight}
 
 abbrev pub flag : ℕ → Bool
 flag x = leb x 1
@@ -88,3 +89,8 @@ soundTests L =
 
 unfoldable pub sound : Ledger → Bool
 sound L = all (soundTests L)
+
+-- what answers 1 and 2 test: right lengths, and sound
+pub record Ready (L : Ledger) : Type 0 where
+  pub lengths : lengthsRight L ≡ true
+  pub sound : sound L ≡ true
