@@ -7,8 +7,8 @@ use Rattle.rules.specs.Ledger.{Ledger, first-edition}
 use Rattle.rules.specs.Moments.{Slice, tables}
 use Rattle.rules.specs.Record.{readOf}
 use Rattle.rules.specs.Results.{Ran, exits, pair, Result, by-fresh, by-submit, by-read, by-write, by-status, by-wallet, by-escrow-place, by-escrow-row, by-receipt-place, by-receipt-row, Meets}
-use Rattle.rules.specs.Runs.{Surface, Calls-are-listed, Calls-decide, Runs-add-up, Runs-refuse-retries}
-use Rattle.rules.proofs.Runs.{calls-are-listed, calls-decide, runs-add-up, runs-refuse-retries}
+use Rattle.rules.specs.Runs.{Surface, Calls-are-listed, Calls-decide, Runs-add-up, Runs-refuse-retries, Retries-change-nothing}
+use Rattle.rules.proofs.Runs.{calls-are-listed, calls-decide, runs-add-up, runs-refuse-retries, retries-change-nothing}
 use Rattle.rules.proofs.status.Kinds as status-kinds
 use Rattle.rules.proofs.status.Reads as status-reads
 use Rattle.record.proofs.read_record.Kinds as read-kinds
@@ -108,3 +108,6 @@ demand-3 = runs-add-up surface
 
 pub the-retry : Runs-refuse-retries surface
 the-retry = runs-refuse-retries surface
+
+pub the-retry-changes-nothing : Retries-change-nothing surface
+the-retry-changes-nothing = retries-change-nothing surface

@@ -5,8 +5,8 @@ use lib.Dec.{lit<, lit≤}
 use denote.Ref.{now}
 use Rattle.rules.specs.Ledger.{first-edition}
 use Rattle.rules.specs.Results.{Ran, exits, pair, Result, by-fresh, by-submit, by-read, by-write, by-status, by-wallet, by-escrow-place, by-receipt-place, Meets}
-use Rattle.rules.specs.Runs.{Surface, Calls-are-listed, Calls-decide, Runs-add-up, Runs-refuse-retries}
-use Rattle.rules.proofs.Runs.{calls-are-listed, calls-decide, runs-add-up, runs-refuse-retries}
+use Rattle.rules.specs.Runs.{Surface, Calls-are-listed, Calls-decide, Runs-add-up, Runs-refuse-retries, Retries-change-nothing}
+use Rattle.rules.proofs.Runs.{calls-are-listed, calls-decide, runs-add-up, runs-refuse-retries, retries-change-nothing}
 use Rattle.ledger.proofs.Surface.{five}
 use Rattle.milebeacon.proofs.milebeacon_fresh.Kinds as fresh-kinds
 use Rattle.milebeacon.proofs.milebeacon_fresh.Reads as fresh-reads
@@ -80,3 +80,6 @@ demand-3 = runs-add-up surface
 
 pub the-retry : Runs-refuse-retries surface
 the-retry = runs-refuse-retries surface
+
+pub the-retry-changes-nothing : Retries-change-nothing surface
+the-retry-changes-nothing = retries-change-nothing surface

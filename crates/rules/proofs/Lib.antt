@@ -39,6 +39,8 @@ pub mod SoundStays
 pub mod SoundParts
 pub mod SoundAlways
 pub mod Books
+pub mod Heard
+pub mod Replays
 pub mod Results
 pub mod Runs
 pub mod Sole

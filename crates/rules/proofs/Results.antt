@@ -11,12 +11,15 @@ use Rattle.rules.specs.Ledger.{Edition, Ledger, Outcome, outcome, setHea
 use Rattle.rules.specs.Record.{readOf, nothing, Written}
 use Rattle.rules.specs.Refusals.{refusals}
 use Rattle.rules.specs.Submit.{submit}
+use Rattle.rules.specs.Replay.{Gone}
 use Rattle.rules.specs.Status.{statuses}
 use Rattle.rules.specs.Promises.{IsFirst, Refused}
-use Rattle.rules.specs.Results.{Result, by-fresh, by-submit, by-read, by-write, by-status, by-wallet, by-escrow-place, by-escrow-row, by-receipt-place, by-receipt-row, Meets, Listed, Decided, DecidedBy}
+use Rattle.rules.specs.Results.{Result, by-fresh, by-submit, by-replay, by-read, by-write, by-status, by-wallet, by-escrow-place, by-escrow-row, by-receipt-place, by-receipt-row, Meets, Listed, Decided, DecidedBy}
 use Rattle.rules.specs.declared.Read.{Read}
+use Rattle.rules.specs.declared.Verdict.{Verdict}
 use Rattle.rules.proofs.Places.{place-within}
 use Rattle.rules.proofs.Demand12.{on-the-list, refusal-changes-nothing, fresh-answers, read-answers, write-answers, part-answers, settles-exactly, first-refusal, laid-down}
+use Rattle.rules.proofs.Replays.{replays}
 
 -- ---- a start afresh
 
@@ -63,6 +66,9 @@ module _ (lent left : Ledger) (bytes : List ℕ) (number word : ℕ) (m : outcom
 pub listed : (e : Edition) (r : Result) → Meets e r → Listed e r
 listed e (by-fresh lent left number) m = listed-fresh e lent left number m
 listed e (by-submit lent left bytes number word) m = listed-submit lent left bytes number word (m .1)
+listed e (by-replay lent left recording verdict) m =
+    subst (λ (g : Gone Verdict). ((g .found .number ≡ 0) × (g .found .answered .number ≤ 40)) ⊎ ((g .found .number ≡ 1) × (g .left ≡ lent))) (sym (m .1))
+    (replays lent recording .listed)
 listed e (by-read bytes answer) m =
     subst (λ (r : Read). (r .number ≡ 0) ⊎ ((r .number ≡ 3) × (r .submission ≡ nothing))) (sym m) (read-answers bytes)
 listed e (by-write s out left number) m =
@@ -82,6 +88,7 @@ listed e (by-receipt-row lent left number part) m =
 pub decided-by : (e : Edition) (r : Result) → Meets e r → DecidedBy r
 decided-by e (by-fresh lent left number) m = tt
 decided-by e (by-submit lent left bytes number word) m = decided lent left bytes number word (m .1)
+decided-by e (by-replay lent left recording verdict) m = tt
 decided-by e (by-read bytes answer) m = tt
 decided-by e (by-write s out left number) m = tt
 decided-by e (by-status number status) m = tt

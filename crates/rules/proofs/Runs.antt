@@ -1,140 +1,104 @@
 -- From the code to the theorems: what the calls of a run left and said is what the definitions say of the same calls, call by call. So the
 -- books, soundness and the replay guard hold of every run.
 use mathlib.Core.Path.{_≡_, refl, sym, ap, ap₂, _∙_, subst, subst₂}
-use mathlib.Core.List.{List, [], _∷_, _++_}
-use mathlib.Core.Bool.{true}
-use Prim.Native.Nat.{ℕ, suc, _≤_}
+use mathlib.Core.Logic.{_≢_, _⊎_, inl, inr}
+use mathlib.Core.List.{List, [], _∷_, _++_, append-assoc}
+use Prim.Native.Nat.{ℕ, _≤_}
 use native.Mathlib.Omega.{arith}
 use Rattle.rules.specs.Limits.{HEADER-LEN, ESCROW-LEN}
-use Rattle.rules.specs.Ledger.{Edition, Ledger, Outcome, setHeader, setWallets, setEscrows, setReceipts, fresh}
+use Rattle.rules.specs.Ledger.{Edition, Ledger, Outcome, outcome, setHeader, setWallets, setEscrows, setReceipts, fresh}
 use Rattle.rules.specs.Sound.{sound}
 use Rattle.rules.specs.Submit.{submit}
-use Rattle.rules.specs.History.{Call, starts-afresh, submits, reads, writes, asks-status, finds-wallet, finds-escrow, finds-receipt, Event, Said, saidOf, submitted, begun, leaves, says, after, said, unbroken}
-use Rattle.rules.specs.Promises.{Lent, started, Refused, Adds-up}
-use Rattle.rules.specs.Results.{Result, by-fresh, by-submit, by-read, by-write, by-status, by-wallet, by-escrow-place, by-escrow-row, by-receipt-place, by-receipt-row, Pair, Meets}
-use Rattle.rules.specs.Runs.{LentOf, leftBy, heardOf, Surface, Run, lastOf, heardBy, Calls-are-listed, Calls-decide, Runs-add-up, Runs-refuse-retries}
+use Rattle.rules.specs.Replay.{Gone, told, replay}
+use Rattle.rules.specs.History.{Call, starts-afresh, submits, reads, writes, asks-status, finds-wallet, finds-escrow, finds-receipt, Event, Said, saidOf, submitted, begun, after, said}
+use Rattle.rules.specs.Promises.{Lent, started, Adds-up}
+use Rattle.rules.specs.Results.{Result, by-fresh, by-submit, by-replay, by-read, by-write, by-status, by-wallet, by-escrow-place, by-escrow-row, by-receipt-place, by-receipt-row, Pair, Meets}
+use Rattle.rules.specs.Runs.{LentOf, leftBy, heardOf, Surface, Run, lastOf, heardBy, Calls-are-listed, Calls-decide, Runs-add-up, Runs-refuse-retries, Retries-change-nothing}
+use Rattle.rules.specs.declared.Verdict.{Verdict}
 use Rattle.rules.proofs.Demand12.{fresh-right}
-use Rattle.rules.proofs.Replay.{replay-guard}
 use Rattle.rules.proofs.Books.{the-books}
 use Rattle.rules.proofs.SoundAlways.{sound-always}
+use Rattle.rules.proofs.Heard.{opening, first-said, some-heard, after-more, said-more, retry-heard, Begins, begins}
+use Rattle.rules.proofs.Replays.{replay-calls, replays}
 use Rattle.rules.proofs.Results.{listed, decided-by}
 
 -- ---- one call
 
--- what was called
-abbrev pub callOf : Result → Call
-callOf (by-fresh lent left number) = starts-afresh
-callOf (by-submit lent left bytes number word) = submits bytes
-callOf (by-read bytes answer) = reads bytes
-callOf (by-write s out left number) = writes s out
-callOf (by-status number status) = asks-status number
-callOf (by-wallet lent left id number) = finds-wallet id
-callOf (by-escrow-place lent left number place) = finds-escrow number
-callOf (by-escrow-row lent left number part) = finds-escrow number
-callOf (by-receipt-place lent left number place) = finds-receipt number
-callOf (by-receipt-row lent left number part) = finds-receipt number
+-- what was called. A replay is a start afresh, and then submissions.
+abbrev pub callsOf : Result → List Call
+callsOf (by-fresh lent left number) = starts-afresh ∷ []
+callsOf (by-submit lent left bytes number word) = submits bytes ∷ []
+callsOf (by-replay lent left recording verdict) = replay-calls recording verdict
+callsOf (by-read bytes answer) = reads bytes ∷ []
+callsOf (by-write s out left number) = writes s out ∷ []
+callsOf (by-status number status) = asks-status number ∷ []
+callsOf (by-wallet lent left id number) = finds-wallet id ∷ []
+callsOf (by-escrow-place lent left number place) = finds-escrow number ∷ []
+callsOf (by-escrow-row lent left number part) = finds-escrow number ∷ []
+callsOf (by-receipt-place lent left number place) = finds-receipt number ∷ []
+callsOf (by-receipt-row lent left number part) = finds-receipt number ∷ []
 
--- a lookup leaves its slices, and so the ledger
-same-wallets : (L : Ledger) {left lent : Pair} → left ≡ lent → (lent .header ≡ L .header) × (lent .table ≡ L .wallets) → setHeader (left .header) (setWallets (left .table) L) ≡ L
-same-wallets L e l = ap₂ (λ (h t : List ℕ). setHeader h (setWallets t L)) (ap (λ (p : Pair). p .header) e ∙ l .0) (ap (λ (p : Pair). p .table) e ∙ l .1)
+-- what a call did by the definitions: it left what they leave, and what was heard of it is what they say
+pub record Did-as (r : Result) (L : Ledger) : Type 0 where
+  pub left : leftBy r L ≡ after L (callsOf r)
+  pub heard : heardOf r ≡ said L (callsOf r)
 
-same-escrows : (L : Ledger) {left lent : Pair} → left ≡ lent → (lent .header ≡ L .header) × (lent .table ≡ L .escrows) → setHeader (left .header) (setEscrows (left .table) L) ≡ L
-same-escrows L e l = ap₂ (λ (h t : List ℕ). setHeader h (setEscrows t L)) (ap (λ (p : Pair). p .header) e ∙ l .0) (ap (λ (p : Pair). p .table) e ∙ l .1)
+-- a lookup leaves its slices, and so the ledger, whichever table `set` lays down
+same-ledger : (L : Ledger) (set : List ℕ → Ledger → Ledger) (table : Ledger → List ℕ) → set (table L) L ≡ L → {left lent : Pair} → left ≡ lent
+    → (lent .header ≡ L .header) × (lent .table ≡ table L) → setHeader (left .header) (set (left .table) L) ≡ L
+same-ledger L set table same e l =
+    ap₂ (λ (h t : List ℕ). setHeader h (set t L)) (ap (λ (p : Pair). p .header) e ∙ l .0) (ap (λ (p : Pair). p .table) e ∙ l .1)
+    ∙ ap (setHeader (L .header)) same
 
-same-receipts : (L : Ledger) {left lent : Pair} → left ≡ lent → (lent .header ≡ L .header) × (lent .table ≡ L .receipts) → setHeader (left .header) (setReceipts (left .table) L) ≡ L
-same-receipts L e l = ap₂ (λ (h t : List ℕ). setHeader h (setReceipts t L)) (ap (λ (p : Pair). p .header) e ∙ l .0) (ap (λ (p : Pair). p .table) e ∙ l .1)
+did-as : (e : Edition) (r : Result) (L : Ledger) → Meets e r → LentOf r L → Did-as r L
+did-as e (by-fresh lent left number) L m l =
+    let o : outcome number 0 left ≡ fresh L = m .1 ∙ ap fresh l in
+    record { left = ap (λ (x : Outcome). x .left) o; heard = ap (λ (x : Outcome). begun (x .number) ∷ []) o }
+did-as e (by-submit lent left bytes number word) L m l =
+    let o : outcome number word left ≡ submit L bytes = m .1 ∙ ap (λ (K : Ledger). submit K bytes) l in
+    record { left = ap (λ (x : Outcome). x .left) o; heard = ap (λ (x : Outcome). submitted (saidOf bytes x) ∷ []) o }
+did-as e (by-replay lent left recording verdict) L m l =
+    subst (λ (g : Gone Verdict). Did-as (by-replay lent (g .left) recording (g .found)) L) (sym (m .1 ∙ ap (λ (K : Ledger). told (replay submit K recording)) l))
+    (record { left = replays L recording .left; heard = replays L recording .heard })
+did-as e (by-read bytes answer) L m l = record { left = refl; heard = refl }
+did-as e (by-write s out left number) L m l = record { left = refl; heard = refl }
+did-as e (by-status number status) L m l = record { left = refl; heard = refl }
+did-as e (by-wallet lent left id number) L m l = record { left = same-ledger L setWallets (λ (K : Ledger). K .wallets) refl (m .0) l; heard = refl }
+did-as e (by-escrow-place lent left number place) L m l = record { left = same-ledger L setEscrows (λ (K : Ledger). K .escrows) refl (m .0) l; heard = refl }
+did-as e (by-escrow-row lent left number part) L m l = record { left = same-ledger L setEscrows (λ (K : Ledger). K .escrows) refl (m .0) l; heard = refl }
+did-as e (by-receipt-place lent left number place) L m l = record { left = same-ledger L setReceipts (λ (K : Ledger). K .receipts) refl (m .0) l; heard = refl }
+did-as e (by-receipt-row lent left number part) L m l = record { left = same-ledger L setReceipts (λ (K : Ledger). K .receipts) refl (m .0) l; heard = refl }
 
-left-right : (e : Edition) (r : Result) (L : Ledger) → Meets e r → LentOf r L → leftBy r L ≡ leaves L (callOf r)
-left-right e (by-fresh lent left number) L m l = ap (λ (o : Outcome). o .left) (m .1) ∙ ap started l
-left-right e (by-submit lent left bytes number word) L m l = ap (λ (o : Outcome). o .left) (m .1) ∙ ap (λ (K : Ledger). submit K bytes .left) l
-left-right e (by-read bytes answer) L m l = refl
-left-right e (by-write s out left number) L m l = refl
-left-right e (by-status number status) L m l = refl
-left-right e (by-wallet lent left id number) L m l = same-wallets L (m .0) l
-left-right e (by-escrow-place lent left number place) L m l = same-escrows L (m .0) l
-left-right e (by-escrow-row lent left number part) L m l = same-escrows L (m .0) l
-left-right e (by-receipt-place lent left number place) L m l = same-receipts L (m .0) l
-left-right e (by-receipt-row lent left number part) L m l = same-receipts L (m .0) l
+-- ---- the edition
 
-heard-right : (e : Edition) (r : Result) (L : Ledger) → Meets e r → LentOf r L → heardOf r ≡ says L (callOf r)
-heard-right e (by-fresh lent left number) L m l = ap (λ (o : Outcome). begun (o .number) ∷ []) (m .1 ∙ ap fresh l)
-heard-right e (by-submit lent left bytes number word) L m l =
-    ap (λ (o : Outcome). submitted (saidOf bytes o) ∷ []) (m .1 ∙ ap (λ (K : Ledger). submit K bytes) l)
-heard-right e (by-read bytes answer) L m l = refl
-heard-right e (by-write s out left number) L m l = refl
-heard-right e (by-status number status) L m l = refl
-heard-right e (by-wallet lent left id number) L m l = refl
-heard-right e (by-escrow-place lent left number place) L m l = refl
-heard-right e (by-escrow-row lent left number part) L m l = refl
-heard-right e (by-receipt-place lent left number place) L m l = refl
-heard-right e (by-receipt-row lent left number part) L m l = refl
+-- a call of which something is heard was lent tables of the edition; the others leave theirs
+edition-of : (e : Edition) (r : Result) (L : Ledger) → Meets e r → LentOf r L → (L .edition ≡ e) ⊎ ((heardOf r ≡ []) × (leftBy r L .edition ≡ L .edition))
+edition-of e (by-fresh lent left number) L m l = inl (sym (ap (λ (K : Ledger). K .edition) l) ∙ m .0)
+edition-of e (by-submit lent left bytes number word) L m l = inl (sym (ap (λ (K : Ledger). K .edition) l) ∙ m .0)
+edition-of e (by-replay lent left recording verdict) L m l = inl (sym (ap (λ (K : Ledger). K .edition) l) ∙ m .0)
+edition-of e (by-read bytes answer) L m l = inr (refl, refl)
+edition-of e (by-write s out left number) L m l = inr (refl, refl)
+edition-of e (by-status number status) L m l = inr (refl, refl)
+edition-of e (by-wallet lent left id number) L m l = inr (refl, refl)
+edition-of e (by-escrow-place lent left number place) L m l = inr (refl, refl)
+edition-of e (by-escrow-row lent left number part) L m l = inr (refl, refl)
+edition-of e (by-receipt-place lent left number place) L m l = inr (refl, refl)
+edition-of e (by-receipt-row lent left number part) L m l = inr (refl, refl)
 
--- ---- what was called, by what was heard
-
-never : {n : ℕ} → 0 ≡ suc n → ⊥
-never e = omega (arith, e)
-
--- a start afresh answered n
-pub record Begins (e : Edition) (r : Result) (L : Ledger) (n : ℕ) : Type 0 where
-  pub edition : L .edition ≡ e
-  pub number : fresh L .number ≡ n
-  pub left : leftBy r L ≡ started L
-
--- one more than the answer of the start afresh with which a history begins; 0 where it does not begin so
-abbrev opening : List Event → ℕ
-opening [] = 0
-opening (begun n ∷ es) = suc n
-opening (submitted e ∷ es) = 0
-
-pub begins : (e : Edition) (r : Result) (L : Ledger) (n : ℕ) → Meets e r → LentOf r L → heardOf r ≡ (begun n ∷ []) → Begins e r L n
-begins e (by-fresh lent left number) L n m l x =
-    let y : suc number ≡ suc n = ap opening x in
-    let z : number ≡ fresh L .number = ap (λ (o : Outcome). o .number) (m .1 ∙ ap fresh l) in
-    record { edition = sym (ap (λ (K : Ledger). K .edition) l) ∙ m .0; number = omega (arith, y, z); left = left-right e (by-fresh lent left number) L m l }
-begins e (by-submit lent left bytes number word) L n m l x = absurd (never (ap opening x))
-begins e (by-read bytes answer) L n m l x = absurd (never (ap opening x))
-begins e (by-write s out left number) L n m l x = absurd (never (ap opening x))
-begins e (by-status number status) L n m l x = absurd (never (ap opening x))
-begins e (by-wallet lent left id number) L n m l x = absurd (never (ap opening x))
-begins e (by-escrow-place lent left number place) L n m l x = absurd (never (ap opening x))
-begins e (by-escrow-row lent left number part) L n m l x = absurd (never (ap opening x))
-begins e (by-receipt-place lent left number place) L n m l x = absurd (never (ap opening x))
-begins e (by-receipt-row lent left number part) L n m l x = absurd (never (ap opening x))
-
--- a submission and its answer
-pub record Submits (e : Edition) (r : Result) (L : Ledger) (s : Said) : Type 0 where
-  pub edition : L .edition ≡ e
-  pub bytes : List ℕ
-  pub said : saidOf bytes (submit L bytes) ≡ s
-  pub left : leftBy r L ≡ submit L bytes .left
-
--- 1 where a history begins with a submission, and what that said
-abbrev submissions : List Event → ℕ
-submissions [] = 0
-submissions (begun n ∷ es) = 0
-submissions (submitted e ∷ es) = 1
-
-abbrev first-said : Said → List Event → Said
-first-said d [] = d
-first-said d (begun n ∷ es) = d
-first-said d (submitted e ∷ es) = e
-
-pub submits-of : (e : Edition) (r : Result) (L : Ledger) (s : Said) → Meets e r → LentOf r L → heardOf r ≡ (submitted s ∷ []) → Submits e r L s
-submits-of e (by-fresh lent left number) L s m l x = absurd (never (ap submissions x))
-submits-of e (by-submit lent left bytes number word) L s m l x = record {
-  edition = sym (ap (λ (K : Ledger). K .edition) l) ∙ m .0;
-  bytes = bytes;
-  said = sym (ap (saidOf bytes) (m .1 ∙ ap (λ (K : Ledger). submit K bytes) l)) ∙ ap (first-said s) x;
-  left = left-right e (by-submit lent left bytes number word) L m l;
-}
-submits-of e (by-read bytes answer) L s m l x = absurd (never (ap submissions x))
-submits-of e (by-write t out left number) L s m l x = absurd (never (ap submissions x))
-submits-of e (by-status number status) L s m l x = absurd (never (ap submissions x))
-submits-of e (by-wallet lent left id number) L s m l x = absurd (never (ap submissions x))
-submits-of e (by-escrow-place lent left number place) L s m l x = absurd (never (ap submissions x))
-submits-of e (by-escrow-row lent left number part) L s m l x = absurd (never (ap submissions x))
-submits-of e (by-receipt-place lent left number place) L s m l x = absurd (never (ap submissions x))
-submits-of e (by-receipt-row lent left number part) L s m l x = absurd (never (ap submissions x))
+-- a call of which one submission is heard leaves the ledger if that is refused
+refused-leaves : (e : Edition) (r : Result) (L : Ledger) (f : Said) → Meets e r → LentOf r L → heardOf r ≡ (submitted f ∷ []) → f .number ≢ 0 → leftBy r L ≡ L
+refused-leaves e (by-fresh lent left number) L f m l x n = absurd (omega (arith, ap opening x))
+refused-leaves e (by-submit lent left bytes number word) L f m l x n =
+    listed e (by-submit lent left bytes number word) m .1 (λ z. n (sym (ap (λ (l : List Event). first-said f l .number) x) ∙ z)) .1 ∙ l
+refused-leaves e (by-replay lent left recording verdict) L f m l x n = absurd (omega (arith, ap opening x))
+refused-leaves e (by-read bytes answer) L f m l x n = refl
+refused-leaves e (by-write s out left number) L f m l x n = refl
+refused-leaves e (by-status number status) L f m l x n = refl
+refused-leaves e (by-wallet lent left id number) L f m l x n = did-as e (by-wallet lent left id number) L m l .left
+refused-leaves e (by-escrow-place lent left number place) L f m l x n = did-as e (by-escrow-place lent left number place) L m l .left
+refused-leaves e (by-escrow-row lent left number part) L f m l x n = did-as e (by-escrow-row lent left number part) L m l .left
+refused-leaves e (by-receipt-place lent left number place) L f m l x n = did-as e (by-receipt-place lent left number place) L m l .left
+refused-leaves e (by-receipt-row lent left number part) L f m l x n = did-as e (by-receipt-row lent left number part) L m l .left
 
 -- the book begins with the start
 begun-adds-up : (L : Ledger) (es : List Event) → Adds-up L es → Adds-up L (begun 0 ∷ es)
@@ -154,38 +118,55 @@ module _ (S : Surface) where
 
   abbrev pub calls : List (S .Did) → List Call
   calls [] = []
-  calls (d ∷ ds) = callOf (S .shows d) ∷ calls ds
+  calls (d ∷ ds) = callsOf (S .shows d) ++ calls ds
 
+  -- what a run left and said is what the definitions say of the same calls
   pub run-after : (L : Ledger) (ds : List (S .Did)) → Run S L ds → lastOf S L ds ≡ after L (calls ds)
   run-after L [] m = refl
   run-after L (d ∷ ds) m =
-      run-after (leftBy (S .shows d) L) ds (m .1) ∙ ap (λ (K : Ledger). after K (calls ds)) (left-right ed (S .shows d) L (S .meets d) (m .0))
+      let x : Did-as (S .shows d) L = did-as ed (S .shows d) L (S .meets d) (m .0) in
+      run-after (leftBy (S .shows d) L) ds (m .1) ∙ ap (λ (K : Ledger). after K (calls ds)) (x .left) ∙ sym (after-more L (callsOf (S .shows d)) (calls ds))
 
   pub run-heard : (L : Ledger) (ds : List (S .Did)) → Run S L ds → heardBy S ds ≡ said L (calls ds)
   run-heard L [] m = refl
   run-heard L (d ∷ ds) m =
-      ap₂ (λ (x y : List Event). x ++ y) (heard-right ed (S .shows d) L (S .meets d) (m .0))
-      (run-heard (leftBy (S .shows d) L) ds (m .1) ∙ ap (λ (K : Ledger). said K (calls ds)) (left-right ed (S .shows d) L (S .meets d) (m .0)))
+      let x : Did-as (S .shows d) L = did-as ed (S .shows d) L (S .meets d) (m .0) in
+      ap₂ (λ (y z : List Event). y ++ z) (x .heard)
+      (run-heard (leftBy (S .shows d) L) ds (m .1) ∙ ap (λ (K : Ledger). said K (calls ds)) (x .left)) ∙ sym (said-more L (callsOf (S .shows d)) (calls ds))
+
+  -- a run of which something is heard was lent tables of the edition
+  run-edition : (L : Ledger) (ds : List (S .Did)) → Run S L ds → heardBy S ds ≢ [] → L .edition ≡ S .edition
+  run-edition L [] m some = absurd (some refl)
+  run-edition L (d ∷ ds) m some = go (edition-of ed (S .shows d) L (S .meets d) (m .0)) (run-edition (leftBy (S .shows d) L) ds (m .1))
+    where
+      go : (L .edition ≡ S .edition) ⊎ ((heardOf (S .shows d) ≡ []) × (leftBy (S .shows d) L .edition ≡ L .edition))
+          → (heardBy S ds ≢ [] → leftBy (S .shows d) L .edition ≡ S .edition) → L .edition ≡ S .edition
+      go (inl e) f = e
+      go (inr x) f = sym (x .1) ∙ f (λ n. some (ap₂ (λ (y z : List Event). y ++ z) (x .0) n))
+
+  wide : (L : Ledger) → L .edition ≡ S .edition → HEADER-LEN ≤ L .edition .header
+  wide L same = subst (λ (e : Edition). HEADER-LEN ≤ e .header) (sym same) (S .sized .header)
 
   -- a start afresh that was answered 0 was lent tables of right lengths
   lent-of : (L : Ledger) → L .edition ≡ S .edition → fresh L .number ≡ 0 → Lent L
   lent-of L same z = record {
     lengths = fresh-right L z;
-    header = subst (λ (e : Edition). HEADER-LEN ≤ e .header) (sym same) (S .sized .header);
+    header = wide L same;
     escrow = subst (λ (e : Edition). ESCROW-LEN ≤ e .escrow) (sym same) (S .sized .escrow);
   }
 
   pub runs-add-up : Runs-add-up S
-  runs-add-up L start run m z =
-      let b : Begins ed (S .shows start) L 0 = begins ed (S .shows start) L 0 (S .meets start) (m .0) z in
-      let lent : Lent L = lent-of L (b .edition) (b .number) in
-      let last : lastOf S L (start ∷ run) ≡ after (started L) (calls run) =
-      run-after (leftBy (S .shows start) L) run (m .1) ∙ ap (λ (K : Ledger). after K (calls run)) (b .left) in
-      let heard : heardBy S (start ∷ run) ≡ (begun 0 ∷ said (started L) (calls run)) =
-      ap₂ (λ (x y : List Event). x ++ y) z (run-heard (leftBy (S .shows start) L) run (m .1) ∙ ap (λ (K : Ledger). said K (calls run)) (b .left)) in (
-        subst₂ Adds-up (sym last) (sym heard) (begun-adds-up _ _ (the-books L lent (calls run))),
-        ap sound last ∙ sound-always L lent (calls run),
+  runs-add-up L run heard m x =
+      let b : Begins L (after L (calls run)) heard = begins L (calls run) heard (sym (run-heard L run m) ∙ x) in
+      let lent : Lent L = lent-of L (run-edition L run m (some-heard [] (begun 0) heard x)) (b .number) in
+      let last : lastOf S L run ≡ after (started L) (b .rest) = run-after L run m ∙ b .after-rest in (
+        subst₂ Adds-up (sym last) (ap (λ (l : List Event). begun 0 ∷ l) (b .heard-rest) ∙ sym x) (begun-adds-up _ _ (the-books L lent (b .rest))),
+        ap sound last ∙ sound-always L lent (b .rest),
       )
+
+  pub runs-refuse-retries : Runs-refuse-retries S
+  runs-refuse-retries L run before between behind e f m x =
+      retry-heard L (wide L (run-edition L run m (some-heard before (submitted e) _ x))) (calls run) before between behind e f (sym (run-heard L run m) ∙ x)
 
   -- a run goes on from where it was
   run-fst : (L : Ledger) (xs ys : List (S .Did)) → Run S L (xs ++ ys) → Run S L xs
@@ -196,42 +177,17 @@ module _ (S : Surface) where
   run-snd L [] ys m = m
   run-snd L (x ∷ xs) ys m = run-snd (leftBy (S .shows x) L) xs ys (m .1)
 
-  pub runs-refuse-retries : Runs-refuse-retries S
-  runs-refuse-retries L first between again m whole e f heard-first heard-again zero no-sweep same-signer same-nonce = (
-    (λ z. refused .number (ap (λ (x : Said). x .number) (then .said) ∙ z)),
-    sym (ap (λ (x : Said). x .word) (then .said)) ∙ refused .word,
-    then .left ∙ refused .left,
-  )
+  heard-more : (xs ys : List (S .Did)) → heardBy S (xs ++ ys) ≡ heardBy S xs ++ heardBy S ys
+  heard-more [] ys = refl
+  heard-more (x ∷ xs) ys =
+      ap (λ (l : List Event). heardOf (S .shows x) ++ l) (heard-more xs ys) ∙ sym (append-assoc (heardOf (S .shows x)) (heardBy S xs) (heardBy S ys))
+
+  pub retries-change-nothing : Retries-change-nothing S
+  retries-change-nothing L run again before between e f m x y whole zero no-sweep same-signer same-nonce =
+      refused-leaves ed (S .shows again) (lastOf S L run) f (S .meets again) (run-snd L run (again ∷ []) m .0) y
+      (runs-refuse-retries L (run ++ (again ∷ [])) before between [] e f m heard whole zero no-sweep same-signer same-nonce .0)
     where
-      M : Ledger
-      M = leftBy (S .shows first) L
-
-      K : Ledger
-      K = lastOf S M between
-
-      once : Submits ed (S .shows first) L e
-      once = submits-of ed (S .shows first) L e (S .meets first) (m .0) heard-first
-
-      M-is : M ≡ submit L (once .bytes) .left
-      M-is = once .left
-
-      between-run : Run S M between
-      between-run = run-fst M between (again ∷ []) (m .1)
-
-      K-is : K ≡ after (submit L (once .bytes) .left) (calls between)
-      K-is = run-after M between between-run ∙ ap (λ (N : Ledger). after N (calls between)) M-is
-
-      unbroken-between : unbroken (said (submit L (once .bytes) .left) (calls between)) ≡ true
-      unbroken-between = sym (ap unbroken (run-heard M between between-run ∙ ap (λ (N : Ledger). said N (calls between)) M-is)) ∙ whole
-
-      then : Submits ed (S .shows again) K f
-      then = submits-of ed (S .shows again) K f (S .meets again) (run-snd M between (again ∷ []) (m .1) .0) heard-again
-
-      refused : Refused K (then .bytes)
-      refused =
-          subst (λ (N : Ledger). Refused N (then .bytes)) (sym K-is)
-          (replay-guard L (subst (λ (d : Edition). HEADER-LEN ≤ d .header) (sym (once .edition)) (S .sized .header)) (once .bytes) (calls between)
-          (then .bytes) (ap (λ (x : Said). x .number) (once .said) ∙ zero)
-          (λ s. no-sweep (sym (ap (λ (x : Said). x .submission .op) (once .said)) ∙ s)) unbroken-between
-          (ap (λ (x : Said). x .submission .signer) (then .said) ∙ same-signer ∙ sym (ap (λ (x : Said). x .submission .signer) (once .said)))
-          (ap (λ (x : Said). x .submission .nonce) (then .said) ∙ same-nonce ∙ sym (ap (λ (x : Said). x .submission .nonce) (once .said))))
+      heard : heardBy S (run ++ (again ∷ [])) ≡ before ++ (submitted e ∷ (between ++ (submitted f ∷ [])))
+      heard =
+          heard-more run (again ∷ []) ∙ ap₂ (λ (u v : List Event). u ++ v) x (ap (λ (l : List Event). l ++ []) y)
+          ∙ append-assoc before (submitted e ∷ between) (submitted f ∷ [])

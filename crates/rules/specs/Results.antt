@@ -20,9 +20,11 @@ use Rattle.rules.specs.Settle.{settle}
 use Rattle.rules.specs.Submit.{submit}
 use Rattle.rules.specs.Lookup.{escrowPlace, escrowPart, receiptPlace, receiptPart, walletNumber}
 use Rattle.rules.specs.Status.{statuses, statusOf}
+use Rattle.rules.specs.Replay.{gone, told, replay}
 use Rattle.rules.specs.Promises.{none, IsFirst}
 use Rattle.rules.specs.declared.Submission.{Submission}
 use Rattle.rules.specs.declared.Read.{Read}
+use Rattle.rules.specs.declared.Verdict.{Verdict}
 
 -- ---- A call, by its own contract
 
@@ -63,6 +65,7 @@ pair header table = record { header = header; table = table }
 pub data Result : Type 0 where
   by-fresh : (lent left : Ledger) (number : ℕ) → Result
   by-submit : (lent left : Ledger) (bytes : List ℕ) (number word : ℕ) → Result
+  by-replay : (lent left : Ledger) (recording : List ℕ) (verdict : Verdict) → Result
   by-read : (bytes : List ℕ) (answer : Read) → Result
   by-write : (s : Submission) (out left : List ℕ) (number : ℕ) → Result
   by-status : (number status : ℕ) → Result
@@ -76,6 +79,7 @@ pub data Result : Type 0 where
 abbrev pub Meets : Edition → Result → Type 0
 Meets e (by-fresh lent left number) = (lent .edition ≡ e) × (outcome number 0 left ≡ fresh lent)
 Meets e (by-submit lent left bytes number word) = (lent .edition ≡ e) × (outcome number word left ≡ submit lent bytes)
+Meets e (by-replay lent left recording verdict) = (lent .edition ≡ e) × (gone verdict left ≡ told (replay submit lent recording))
 Meets e (by-read bytes answer) = answer ≡ readOf bytes
 Meets e (by-write s out left number) = _≡_ {A = Written} (record { number = number; out = left }) (writeOf s out)
 Meets e (by-status number status) = status ≡ statusOf number
@@ -91,6 +95,8 @@ abbrev pub Listed : Edition → Result → Type 0
 Listed e (by-fresh lent left number) =
     ((number ≡ 0) × (left ≡ setHeader (freshHeader e) lent)) ⊎ ((number ≡ 1) × (left ≡ lent))
 Listed e (by-submit lent left bytes number word) = (number ≤ 40) × (number ≢ 0 → (word ≡ 0) × (left ≡ lent))
+Listed e (by-replay lent left recording verdict) =
+    ((verdict .number ≡ 0) × (verdict .answered .number ≤ 40)) ⊎ ((verdict .number ≡ 1) × (left ≡ lent))
 Listed e (by-read bytes answer) = (answer .number ≡ 0) ⊎ ((answer .number ≡ 3) × (answer .submission ≡ nothing))
 Listed e (by-write s out left number) = (number ≡ 0) ⊎ ((number ≡ 3) × (left ≡ out))
 Listed e (by-status number status) = length statuses ≤ number → status ≡ 500
@@ -111,6 +117,7 @@ pub record Decided (lent left : Ledger) (bytes : List ℕ) (number word : ℕ) :
 abbrev pub DecidedBy : Result → Type 0
 DecidedBy (by-fresh lent left number) = Unit {0}
 DecidedBy (by-submit lent left bytes number word) = Decided lent left bytes number word
+DecidedBy (by-replay lent left recording verdict) = Unit {0}
 DecidedBy (by-read bytes answer) = Unit {0}
 DecidedBy (by-write s out left number) = Unit {0}
 DecidedBy (by-status number status) = Unit {0}

@@ -3,20 +3,25 @@
 use mathlib.Core.Path.{_≡_}
 use mathlib.Core.Logic.{_≢_}
 use mathlib.Core.List.{List, [], _∷_, _++_}
-use mathlib.Core.Bool.{true}
-use Prim.Native.Nat.{ℕ}
-use Rattle.rules.specs.Limits.{SWEEP}
+use mathlib.Core.Bool.{Bool, true, cond, _&&_}
+use Prim.Native.Nat.{ℕ, zero, suc}
+use lib.Dec.{eqb}
+use Rattle.rules.specs.Limits.{SWEEP, DISAGREES}
 use Rattle.rules.specs.Ledger.{Edition, Ledger, Sized, setHeader, setWallets, setEscrows, setReceipts}
 use Rattle.rules.specs.Record.{readOf}
 use Rattle.rules.specs.Sound.{sound}
+use Rattle.rules.specs.Recording.{Entry, entriesOf}
+use Rattle.rules.specs.Replay.{answer}
 use Rattle.rules.specs.History.{Event, submitted, begun, Said, unbroken}
 use Rattle.rules.specs.Promises.{Adds-up}
-use Rattle.rules.specs.Results.{Result, by-fresh, by-submit, by-read, by-write, by-status, by-wallet, by-escrow-place, by-escrow-row, by-receipt-place, by-receipt-row, Pair, Meets, Listed, DecidedBy}
+use Rattle.rules.specs.Results.{Result, by-fresh, by-submit, by-replay, by-read, by-write, by-status, by-wallet, by-escrow-place, by-escrow-row, by-receipt-place, by-receipt-row, Pair, Meets, Listed, DecidedBy}
+use Rattle.rules.specs.declared.Answer.{Answer}
 
 -- the slices lent to a call are those of the ledger
 abbrev pub LentOf : Result → Ledger → Type 0
 LentOf (by-fresh lent left number) L = lent ≡ L
 LentOf (by-submit lent left bytes number word) L = lent ≡ L
+LentOf (by-replay lent left recording verdict) L = lent ≡ L
 LentOf (by-read bytes answer) L = Unit {0}
 LentOf (by-write s out left number) L = Unit {0}
 LentOf (by-status number status) L = Unit {0}
@@ -33,6 +38,7 @@ laid set p L = setHeader (p .header) (set (p .table) L)
 abbrev pub leftBy : Result → Ledger → Ledger
 leftBy (by-fresh lent left number) L = left
 leftBy (by-submit lent left bytes number word) L = left
+leftBy (by-replay lent left recording verdict) L = left
 leftBy (by-read bytes answer) L = L
 leftBy (by-write s out left number) L = L
 leftBy (by-status number status) L = L
@@ -42,10 +48,23 @@ leftBy (by-escrow-row lent left number part) L = laid setEscrows left L
 leftBy (by-receipt-place lent left number place) L = laid setReceipts left L
 leftBy (by-receipt-row lent left number part) L = laid setReceipts left L
 
--- what the caller can write down of it, without looking at a table
+-- a submission and its answer
+abbrev pub saidTo : List ℕ → Answer → Said
+saidTo bytes x = record { submission = readOf bytes .submission; number = x .number; word = x .word }
+
+-- the first n entries of a recording with their answers: those recorded, but for the last of them that of the core if it disagrees
+abbrev pub heardIn : Bool → Answer → ℕ → List Entry → List Event
+heardIn disagrees core zero es = []
+heardIn disagrees core (suc n) [] = []
+heardIn disagrees core (suc n) (e ∷ es) =
+    submitted (saidTo (e .bytes) (cond (disagrees && eqb n 0) core (answer (e .number) (e .word)))) ∷ heardIn disagrees core n es
+
+-- what the caller can write down of it, without looking at a table. A replay is a start afresh, and then submissions.
 abbrev pub heardOf : Result → List Event
 heardOf (by-fresh lent left number) = begun number ∷ []
-heardOf (by-submit lent left bytes number word) = submitted (record { submission = readOf bytes .submission; number = number; word = word }) ∷ []
+heardOf (by-submit lent left bytes number word) = submitted (saidTo bytes (answer number word)) ∷ []
+heardOf (by-replay lent left recording verdict) =
+    begun (verdict .number) ∷ heardIn (eqb (verdict .finding) DISAGREES) (verdict .answered) (verdict .replayed) (entriesOf recording)
 heardOf (by-read bytes answer) = []
 heardOf (by-write s out left number) = []
 heardOf (by-status number status) = []
@@ -84,21 +103,28 @@ module _ (S : Surface) where
   abbrev pub Calls-decide : Type 0
   Calls-decide = (d : S .Did) → DecidedBy (S .shows d)
 
-  -- DEMAND 3. A run that begins with a start afresh answered 0, on any tables, adds up, and its ledger is sound. A later start that is
-  -- answered 0 begins the book again.
+  -- DEMAND 3. A run in which a start afresh answered 0 is the first that is heard, on any tables, adds up, and its ledger is sound. A later
+  -- start that is answered 0 begins the book again.
   abbrev pub Runs-add-up : Type 0
   Runs-add-up =
-      (L : Ledger) (start : S .Did) (run : List (S .Did)) → Run L (start ∷ run) → heardOf (S .shows start) ≡ (begun 0 ∷ []) →
-      Adds-up (lastOf L (start ∷ run)) (heardBy (start ∷ run)) × (sound (lastOf L (start ∷ run)) ≡ true)
+      (L : Ledger) (run : List (S .Did)) (heard : List Event) → Run L run → heardBy run ≡ (begun 0 ∷ heard) →
+      Adds-up (lastOf L run) (heardBy run) × (sound (lastOf L run) ≡ true)
 
-  -- THE RETRY. Of two submissions of a run with one signer and nonce, the first settled and no sweep, and no start between them that is
-  -- answered 0, the later one is a refusal and leaves all words as they were, whatever lies between.
+  -- THE RETRY. Of two submissions that are heard in a run, in a replay or not, with one signer and nonce, the first settled and no sweep, and
+  -- no start between them that is answered 0, the later one is a refusal, whatever lies between.
   abbrev pub Runs-refuse-retries : Type 0
   Runs-refuse-retries =
-      (L : Ledger) (first : S .Did) (between : List (S .Did)) (again : S .Did) → Run L (first ∷ (between ++ (again ∷ []))) →
-      unbroken (heardBy between) ≡ true →
-      (e f : Said) → heardOf (S .shows first) ≡ (submitted e ∷ []) → heardOf (S .shows again) ≡ (submitted f ∷ []) →
+      (L : Ledger) (run : List (S .Did)) (before between behind : List Event) (e f : Said) → Run L run →
+      heardBy run ≡ before ++ (submitted e ∷ (between ++ (submitted f ∷ behind))) → unbroken between ≡ true →
       e .number ≡ 0 → e .submission .op ≢ SWEEP →
       f .submission .signer ≡ e .submission .signer → f .submission .nonce ≡ e .submission .nonce →
-      let K = lastOf (leftBy (S .shows first) L) between in
-      (f .number ≢ 0) × (f .word ≡ 0) × (leftBy (S .shows again) K ≡ K)
+      (f .number ≢ 0) × (f .word ≡ 0)
+
+  -- and if it is submitted by itself, it leaves all words as they were
+  abbrev pub Retries-change-nothing : Type 0
+  Retries-change-nothing =
+      (L : Ledger) (run : List (S .Did)) (again : S .Did) (before between : List Event) (e f : Said) → Run L (run ++ (again ∷ [])) →
+      heardBy run ≡ before ++ (submitted e ∷ between) → heardOf (S .shows again) ≡ (submitted f ∷ []) → unbroken between ≡ true →
+      e .number ≡ 0 → e .submission .op ≢ SWEEP →
+      f .submission .signer ≡ e .submission .signer → f .submission .nonce ≡ e .submission .nonce →
+      leftBy (S .shows again) (lastOf L run) ≡ lastOf L run

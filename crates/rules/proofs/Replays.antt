@@ -1,0 +1,140 @@
+-- A replay is a start afresh and then submissions, as many as were replayed: it leaves what those calls leave, and what the caller can write down
+-- of it, from the recording and the verdict alone, is what they say. By the fold's own recursion: each entry that agrees was answered as
+-- recorded, and the one that does not is the last.
+use mathlib.Core.Path.{_≡_, refl, sym, ap, ap₂, _∙_, subst}
+use mathlib.Core.Logic.{_⊎_, inl, inr}
+use mathlib.Core.List.{List, [], _∷_}
+use mathlib.Core.Bool.{Bool, true, false, cond, _&&_, true≢false}
+use Prim.Native.Nat.{ℕ, zero, suc, _+_, _≤_}
+use native.Mathlib.Omega.{arith}
+use lib.Dec.{eqb}
+use borrow.Author.Tests.{eqb-true}
+use Rattle.rules.specs.Limits.{DISAGREES}
+use Rattle.rules.specs.Ledger.{Ledger, Outcome, outcome, setHeader, lengthsRight, freshHeader, fresh}
+use Rattle.rules.specs.Submit.{submit}
+use Rattle.rules.specs.Recording.{Entry, entriesOf, cutShort}
+use Rattle.rules.specs.Replay.{Next, on, stop, Gone, gone, further, through, answer, agrees, compared, ended, replayOn, replay, verdictOf}
+use Rattle.rules.specs.History.{Call, starts-afresh, submits, Event, Said, submitted, begun, after, said}
+use Rattle.rules.specs.Promises.{started}
+use Rattle.rules.specs.Runs.{saidTo, heardIn}
+use Rattle.rules.specs.declared.Answer.{Answer}
+use Rattle.rules.specs.declared.Found.{Found}
+use Rattle.rules.specs.declared.Found.the-variants.{WrongLength, AllAgree, CutShort, Disagrees}
+use Rattle.rules.specs.declared.Verdict.{Verdict}
+use Rattle.rules.proofs.Bools.{cond-case, and-fst, and-snd}
+use Rattle.rules.proofs.Demand12.{on-the-list, fresh-answers}
+
+-- the first n entries, submitted
+abbrev pub submissions : ℕ → List Entry → List Call
+submissions zero es = []
+submissions (suc n) [] = []
+submissions (suc n) (e ∷ es) = submits (e .bytes) ∷ submissions n es
+
+abbrev differs : Found → Bool
+differs f = eqb (verdictOf f .finding) DISAGREES
+
+-- ---- from n entries on that agreed
+
+record As-calls (L : Ledger) (n : ℕ) (es : List Entry) (g : Gone Found) : Type 0 where
+  count : ℕ
+  number : verdictOf (g .found) .number ≡ 0
+  replayed : verdictOf (g .found) .replayed ≡ n + count
+  answered : verdictOf (g .found) .answered .number ≤ 40
+  last : differs (g .found) ≡ true → 1 ≤ count
+  left : g .left ≡ after L (submissions count es)
+  heard : heardIn (differs (g .found)) (verdictOf (g .found) .answered) count es ≡ said L (submissions count es)
+
+-- the answer of an entry that agrees is the recorded one
+recorded-is : (e : Entry) (o : Outcome) → agrees e o ≡ true → answer (e .number) (e .word) ≡ answer (o .number) (o .word)
+recorded-is e o a =
+    ap₂ answer (eqb-true (e .number) (o .number) (and-fst (eqb (e .number) (o .number)) _ a))
+    (eqb-true (e .word) (o .word) (and-snd (eqb (e .number) (o .number)) _ a))
+
+-- an entry that agrees, before others
+one-more : (L : Ledger) (n : ℕ) (e : Entry) (es : List Entry) (g : Gone Found) → agrees e (submit L (e .bytes)) ≡ true
+    → As-calls (submit L (e .bytes) .left) (n + 1) es g → As-calls L n (e ∷ es) g
+one-more L n e es g a c = record {
+  count = suc (c .count);
+  number = c .number;
+  replayed = omega (arith, c .replayed);
+  answered = c .answered;
+  last = λ d. omega arith;
+  left = c .left;
+  heard =
+      ap₂ (λ (x : Answer) (l : List Event). submitted (saidTo (e .bytes) x) ∷ l) (as-recorded (differs (g .found)) (c .count) (c .last)) (c .heard);
+}
+  where
+    o : Outcome
+    o = submit L (e .bytes)
+
+    -- it is not the last of those replayed, or none disagrees
+    as-recorded : (d : Bool) (k : ℕ) → (d ≡ true → 1 ≤ k)
+        → cond (d && eqb k 0) (verdictOf (g .found) .answered) (answer (e .number) (e .word)) ≡ answer (o .number) (o .word)
+    as-recorded d k h =
+        cond-case (λ (x : Answer). x ≡ answer (o .number) (o .word)) (d && eqb k 0) _ _
+        (λ t. absurd (omega (arith, h (and-fst d (eqb k 0) t), eqb-true k 0 (and-snd d (eqb k 0) t)))) (λ t. recorded-is e o a)
+
+-- no entry is left
+none-left : (L : Ledger) (n : ℕ) (f : Found) → verdictOf f .number ≡ 0 → verdictOf f .replayed ≡ n → verdictOf f .answered .number ≤ 40 → differs f ≡ false
+    → As-calls L n [] (gone f L)
+none-left L n f z r a d = record {
+  count = 0;
+  number = z;
+  replayed = omega (arith, r);
+  answered = a;
+  last = λ t. absurd (true≢false (sym t ∙ d));
+  left = refl;
+  heard = refl;
+}
+
+as-calls : (cut : Bool) (n : ℕ) (L : Ledger) (es : List Entry) → As-calls L n es (through submit compared (ended cut) n L es)
+unfolding through ended compared
+as-calls cut n L [] =
+    cond-case (λ (f : Found). As-calls L n [] (gone f L)) cut (CutShort n) (AllAgree n) (λ e. none-left L n (CutShort n) refl refl (omega arith) refl)
+    (λ e. none-left L n (AllAgree n) refl refl (omega arith) refl)
+as-calls cut n L (e ∷ es) =
+    let o = submit L (e .bytes) in
+    cond-case (λ (x : Next ℕ Found). As-calls L n (e ∷ es) (further (λ (k : ℕ). through submit compared (ended cut) k (o .left) es) (o .left) x)) (agrees e o)
+    (on (n + 1)) (stop (Disagrees (n + 1) (answer (e .number) (e .word)) (answer (o .number) (o .word))))
+    (λ a. one-more L n e es _ a (as-calls cut (n + 1) (o .left) es))
+    (λ a. record { count = 1; number = refl; replayed = refl; answered = on-the-list L (e .bytes); last = λ d. omega arith; left = refl; heard = refl })
+
+-- ---- the replay
+
+abbrev pub replay-calls : List ℕ → Verdict → List Call
+replay-calls r v = starts-afresh ∷ submissions (v .replayed) (entriesOf r)
+
+pub record Replays (L : Ledger) (r : List ℕ) (g : Gone Found) : Type 0 where
+  pub listed : ((verdictOf (g .found) .number ≡ 0) × (verdictOf (g .found) .answered .number ≤ 40)) ⊎ ((verdictOf (g .found) .number ≡ 1) × (g .left ≡ L))
+  pub left : g .left ≡ after L (replay-calls r (verdictOf (g .found)))
+  pub heard :
+      (begun (verdictOf (g .found) .number) ∷ heardIn (differs (g .found)) (verdictOf (g .found) .answered) (verdictOf (g .found) .replayed) (entriesOf r))
+      ≡ said L (replay-calls r (verdictOf (g .found)))
+
+replays-on : (L : Ledger) (r : List ℕ) → fresh L .number ≡ 0 → (g : Gone Found) → As-calls (started L) 0 (entriesOf r) g → Replays L r g
+replays-on L r z g c =
+    let k : c .count ≡ verdictOf (g .found) .replayed = omega (arith, c .replayed) in
+    record {
+      listed = inl (c .number, c .answered);
+      left = c .left ∙ ap (λ (n : ℕ). after (started L) (submissions n (entriesOf r))) k;
+      heard =
+          ap₂ (λ (n : ℕ) (l : List Event). begun n ∷ l) (c .number ∙ sym z)
+          (subst (λ (n : ℕ). heardIn (differs (g .found)) (verdictOf (g .found) .answered) n (entriesOf r) ≡ said (started L) (submissions n (entriesOf r))) k (c .heard));
+    }
+
+pub replays : (L : Ledger) (r : List ℕ) → Replays L r (replay submit L r)
+unfolding replay replayOn
+replays L r = go (fresh-answers L)
+  where
+    go : ((lengthsRight L ≡ true) × (fresh L ≡ outcome 0 0 (setHeader (freshHeader (L .edition)) L))) ⊎ ((lengthsRight L ≡ false) × (fresh L ≡ outcome 1 0 L))
+        → Replays L r (replay submit L r)
+    go (inl x) =
+        subst (λ (b : Bool). Replays L r (cond b (replayOn submit (started L) r) (gone WrongLength L))) (sym (x .0))
+        (replays-on L r (ap (λ (o : Outcome). o .number) (x .1)) _ (as-calls (cutShort r) 0 (started L) (entriesOf r)))
+    go (inr x) =
+        subst (λ (b : Bool). Replays L r (cond b (replayOn submit (started L) r) (gone WrongLength L))) (sym (x .0))
+        (record {
+          listed = inr (refl, refl);
+          left = sym (ap (λ (o : Outcome). o .left) (x .1));
+          heard = ap (λ (n : ℕ). begun n ∷ []) (sym (ap (λ (o : Outcome). o .number) (x .1)));
+        })
