@@ -1,4 +1,4 @@
--- P1 to P12 hold of the definitions: no case of the table fails. Each case is a claim of its own, which the checker computes through the
+-- P1 to P12 and the cases of the requests hold of the definitions: no case of the table fails. Each case is a claim of its own, which the checker computes through the
 -- records' bytes; the label stands first in it, so that the checker's message names the case that fails.
 use mathlib.Core.Path.{_≡_, refl}
 use mathlib.Core.List.{List, [], _∷_}
@@ -12,18 +12,20 @@ use Rattle.rules.specs.Refusals.{seenIn, seen, countedOf, counted, entry
 use Rattle.rules.specs.Settle.{raise, lower, ensureWallet, endEscrow, closeReceipt, acceptRow, closeDueReceipt, closeDueEscrow, sweepReceipt, sweepEscrow, sweptReceipts, swept}
 use Rattle.rules.specs.Settle.{grant, transfer, openEscrow, release, refund, claim, accept, dispute, sweep, freeze, caps, operate, enter, settle}
 use Rattle.rules.specs.Submit.{answerOf, submitRead, submit}
-use Rattle.rules.specs.Cases.{Step, Case, tables, goes, failing, cases}
+use Rattle.rules.specs.Recording.{entryAt, entriesFrom}
+use Rattle.rules.specs.Replay.{through, compared, ended, replayOn, replay}
+use Rattle.rules.specs.Cases.{Trial, Case, holds, failing, cases}
 
-abbrev Goes : ℕ → List Step → Type 0
-Goes label steps = goes steps (fresh tables .left) ≡ true
+abbrev Goes : ℕ → Trial → Type 0
+Goes label trial = holds trial ≡ true
 
 abbrev Each : List Case → Type 0
 Each [] = Unit {0}
-Each (c ∷ cs) = Goes (c .label) (c .steps) × Each cs
+Each (c ∷ cs) = Goes (c .label) (c .trial) × Each cs
 
 each-goes : Each cases
-unfolding sum every some seek loop rowOf putHead putWallet putEscrow putReceipt newWallet newEscrow newReceipt newEntry lengthsRight fresh usesOf wellFormed decode encode accepted readOf heldIn credits sound seenIn seen countedOf counted entryRefusals envelopeRefusals operationRefusals refusals raise lower ensureWallet endEscrow closeReceipt acceptRow closeDueReceipt closeDueEscrow sweepReceipt sweepEscrow sweptReceipts swept grant transfer openEscrow release refund claim accept dispute sweep freeze caps operate enter settle answerOf submitRead submit
-each-goes = (refl, (refl, (refl, (refl, (refl, (refl, (refl, (refl, (refl, (refl, (refl, (refl, tt))))))))))))
+unfolding sum every some seek loop rowOf putHead putWallet putEscrow putReceipt newWallet newEscrow newReceipt newEntry lengthsRight fresh usesOf wellFormed decode encode accepted readOf heldIn credits sound seenIn seen countedOf counted entryRefusals envelopeRefusals operationRefusals refusals raise lower ensureWallet endEscrow closeReceipt acceptRow closeDueReceipt closeDueEscrow sweepReceipt sweepEscrow sweptReceipts swept grant transfer openEscrow release refund claim accept dispute sweep freeze caps operate enter settle answerOf submitRead submit entryAt entriesFrom through compared ended replayOn replay
+each-goes = (refl, (refl, (refl, (refl, (refl, (refl, (refl, (refl, (refl, (refl, (refl, (refl, (refl, (refl, (refl, (refl, (refl, (refl, (refl, (refl, (refl, tt)))))))))))))))))))))
 
 none-fails : (cs : List Case) → Each cs → failing cs ≡ []
 none-fails [] e = refl

@@ -43,4 +43,5 @@ pub mod Heard
 pub mod Replays
 pub mod Results
 pub mod Runs
+pub mod Recorded
 pub mod Sole

@@ -86,7 +86,7 @@ wide-of : (L : Ledger) (b : List ℕ) → answerOf L (readOf b) ≡ 0 → HEADER
 wide-of L b e h = header-wide L (settled L (readOf b) e .lengths) h
 
 -- no start in the whole history is none in either part
-unbroken-parts : (xs ys : List Event) → unbroken (xs ++ ys) ≡ true → (unbroken xs ≡ true) × (unbroken ys ≡ true)
+pub unbroken-parts : (xs ys : List Event) → unbroken (xs ++ ys) ≡ true → (unbroken xs ≡ true) × (unbroken ys ≡ true)
 unbroken-parts [] ys u = (refl, u)
 unbroken-parts (submitted e ∷ xs) ys u = unbroken-parts xs ys u
 unbroken-parts (begun n ∷ xs) ys u =

@@ -50,7 +50,7 @@ same-ledger L set table same e l =
     ap₂ (λ (h t : List ℕ). setHeader h (set t L)) (ap (λ (p : Pair). p .header) e ∙ l .0) (ap (λ (p : Pair). p .table) e ∙ l .1)
     ∙ ap (setHeader (L .header)) same
 
-did-as : (e : Edition) (r : Result) (L : Ledger) → Meets e r → LentOf r L → Did-as r L
+pub did-as : (e : Edition) (r : Result) (L : Ledger) → Meets e r → LentOf r L → Did-as r L
 did-as e (by-fresh lent left number) L m l =
     let o : outcome number 0 left ≡ fresh L = m .1 ∙ ap fresh l in
     record { left = ap (λ (x : Outcome). x .left) o; heard = ap (λ (x : Outcome). begun (x .number) ∷ []) o }
@@ -135,7 +135,7 @@ module _ (S : Surface) where
       (run-heard (leftBy (S .shows d) L) ds (m .1) ∙ ap (λ (K : Ledger). said K (calls ds)) (x .left)) ∙ sym (said-more L (callsOf (S .shows d)) (calls ds))
 
   -- a run of which something is heard was lent tables of the edition
-  run-edition : (L : Ledger) (ds : List (S .Did)) → Run S L ds → heardBy S ds ≢ [] → L .edition ≡ S .edition
+  pub run-edition : (L : Ledger) (ds : List (S .Did)) → Run S L ds → heardBy S ds ≢ [] → L .edition ≡ S .edition
   run-edition L [] m some = absurd (some refl)
   run-edition L (d ∷ ds) m some = go (edition-of ed (S .shows d) L (S .meets d) (m .0)) (run-edition (leftBy (S .shows d) L) ds (m .1))
     where
@@ -148,7 +148,7 @@ module _ (S : Surface) where
   wide L same = subst (λ (e : Edition). HEADER-LEN ≤ e .header) (sym same) (S .sized .header)
 
   -- a start afresh that was answered 0 was lent tables of right lengths
-  lent-of : (L : Ledger) → L .edition ≡ S .edition → fresh L .number ≡ 0 → Lent L
+  pub lent-of : (L : Ledger) → L .edition ≡ S .edition → fresh L .number ≡ 0 → Lent L
   lent-of L same z = record {
     lengths = fresh-right L z;
     header = wide L same;

@@ -35,6 +35,11 @@ abbrev pub AllRecords : List (List ℕ) → Type 0
 AllRecords [] = Unit {0}
 AllRecords (b ∷ bs) = (length b ≡ RECORD-BYTES) × AllRecords bs
 
+-- the records of entries
+abbrev pub records : List Entry → List (List ℕ)
+records [] = []
+records (e ∷ es) = e .bytes ∷ records es
+
 -- what is recorded is read back, whatever bytes follow
 abbrev pub Recorded-read : Type 0
 Recorded-read =

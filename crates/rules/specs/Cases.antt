@@ -1,16 +1,21 @@
--- Section "Checked cases": P1 to P12 as one table. A case is a list of submissions on a fresh ledger. Each is written as a record, submitted,
--- and held against the answer and the word that the paper gives, what wallets then have, and the release codes that receipts then have.
-use mathlib.Core.List.{List, [], _∷_}
+-- Section "Checked cases": P1 to P12 as one table, and the cases of the change requests behind them. A case is a list of submissions on a fresh
+-- ledger. Each is written as a record, submitted, and held against the answer and the word that the paper gives, what wallets then have, and the
+-- release codes that receipts then have. Or it is a recording, whose replay is held against a verdict and what wallets then have.
+use mathlib.Core.List.{List, [], _∷_, _++_}
 use mathlib.Core.Bool.{Bool, true, cond, _&&_}
 use Prim.Native.Nat.{ℕ, _+_, _-_}
-use lib.ListN.{replicate}
+use lib.ListN.{replicate, take}
 use lib.Dec.{eqb}
-use Rattle.rules.specs.Limits.{MAX-AMOUNT-MICRO, MAX-HOLD-MS, BALANCE, LOCKED, RELEASE-CODE}
+use Rattle.rules.specs.Limits.{MAX-AMOUNT-MICRO, MAX-HOLD-MS, BALANCE, LOCKED, RELEASE-CODE, MARK-0, NOT-REPLAYED, ALL-AGREE, CUT-SHORT, DISAGREES}
 use Rattle.rules.specs.Limits.{GRANT, TRANSFER, OPEN, RELEASE, CLAIM, ACCEPT, SWEEP}
-use Rattle.rules.specs.Ledger.{Ledger, ledger, fresh, walletOf, receipt}
+use Rattle.rules.specs.Ledger.{Ledger, ledger, setJournal, fresh, walletOf, receipt}
 use Rattle.rules.specs.Record.{encode}
 use Rattle.rules.specs.Submit.{submit}
+use Rattle.rules.specs.Recording.{Entry, entryOf, entryBytes, recordingOf}
+use Rattle.rules.specs.Replay.{replay, answer, verdict, verdictOf}
+use Rattle.rules.specs.declared.Answer.{Answer}
 use Rattle.rules.specs.declared.Submission.{Submission}
+use Rattle.rules.specs.declared.Verdict.{Verdict}
 
 -- a wallet has this balance and this locked
 pub record Has : Type 0 where
@@ -30,10 +35,22 @@ pub record Step : Type 0 where
   pub has : List Has
   pub codes : List Code
 
--- the paper's P1 to P12 by their numbers
+-- a recording, its entries and the bytes behind them; what its replay says, and what wallets then have
+pub record Recorded : Type 0 where
+  pub on : Ledger
+  pub entries : List Entry
+  pub rest : List ℕ
+  pub verdict : Verdict
+  pub has : List Has
+
+pub data Trial : Type 0 where
+  settles : List Step → Trial
+  replays : Recorded → Trial
+
+-- the paper's P1 to P12 by their numbers; case k of request n/13 is n * 100 + k
 pub record Case : Type 0 where
   pub label : ℕ
-  pub steps : List Step
+  pub trial : Trial
 
 -- tables of 4 wallets, 4 escrows, 4 receipts and 8 journal rows, every word of them at its largest
 abbrev pub ODD-WORD : ℕ
@@ -57,10 +74,25 @@ goes (x ∷ xs) L =
     let a = submit L (encode (x .submission)) in
     eqb (a .number) (x .number) && (eqb (a .word) (x .word) && (hasAll (a .left) (x .has) && (codesAll (a .left) (x .codes) && goes xs (a .left))))
 
--- the labels of the cases that do not go
+abbrev sameAnswer : Answer → Answer → Bool
+sameAnswer x y = eqb (x .number) (y .number) && eqb (x .word) (y .word)
+
+abbrev pub sameVerdict : Verdict → Verdict → Bool
+sameVerdict v w =
+    eqb (v .number) (w .number)
+    && (eqb (v .finding) (w .finding)
+    && (eqb (v .replayed) (w .replayed) && (sameAnswer (v .recorded) (w .recorded) && sameAnswer (v .answered) (w .answered))))
+
+abbrev pub holds : Trial → Bool
+holds (settles steps) = goes steps (fresh tables .left)
+holds (replays r) =
+    let g = replay submit (r .on) (recordingOf (r .entries) ++ r .rest) in
+    sameVerdict (verdictOf (g .found)) (r .verdict) && hasAll (g .left) (r .has)
+
+-- the labels of the cases that do not hold
 abbrev pub failing : List Case → List ℕ
 failing [] = []
-failing (c ∷ cs) = cond (goes (c .steps) (fresh tables .left)) (failing cs) (c .label ∷ failing cs)
+failing (c ∷ cs) = cond (holds (c .trial)) (failing cs) (c .label ∷ failing cs)
 
 -- op flags now signer nonce issued expires target amount until link
 abbrev sub : ℕ → ℕ → ℕ → ℕ → ℕ → ℕ → ℕ → ℕ → ℕ → ℕ → ℕ → Submission
@@ -83,7 +115,7 @@ sub op flags now signer nonce issued expires target amount until link = record {
 }
 
 abbrev case : ℕ → List Step → Case
-case label steps = record { label = label; steps = steps }
+case label steps = record { label = label; trial = settles steps }
 
 abbrev step : Submission → ℕ → ℕ → Step
 step s number word = record { submission = s; number = number; word = word; has = []; codes = [] }
@@ -133,12 +165,35 @@ accepts nonce number = sub ACCEPT 0b0001 400_000 7 nonce 400_000 401_000 number 
 abbrev sweeps : Submission
 sweeps = sub SWEEP 0 3_000 0 0 0 0 0 1 0 0
 
+-- ---- Request 1: recordings
+
+-- a step as it is recorded, and with another answer in its place
+abbrev entry : Step → Entry
+entry x = entryOf (encode (x .submission)) (x .number) (x .word)
+
+abbrev entry-as : Step → ℕ → ℕ → Entry
+entry-as x number word = entryOf (encode (x .submission)) number word
+
+-- a recording replayed on the tables
+abbrev recorded : ℕ → List Entry → List ℕ → Verdict → List Has → Case
+recorded label entries rest v has = record {
+  label = label;
+  trial = replays (record { on = tables; entries = entries; rest = rest; verdict = v; has = has });
+}
+
+abbrev all-agree : ℕ → Verdict
+all-agree n = verdict 0 ALL-AGREE n (answer 0 0) (answer 0 0)
+
+-- the retry of P2
+abbrev P3 : Step
+P3 = leaves opening 11 0 (has 7 30_000_000 20_000_000 ∷ [])
+
 -- THE TABLE
 abbrev pub cases : List Case
 cases =
     case 1 (P1 ∷ [])
     ∷ case 2 (P1 ∷ P2 ∷ [])
-    ∷ case 3 (P1 ∷ P2 ∷ leaves opening 11 0 (has 7 30_000_000 20_000_000 ∷ []) ∷ [])
+    ∷ case 3 (P1 ∷ P2 ∷ P3 ∷ [])
     ∷ case 4 (P1 ∷ P2 ∷ P4 ∷ [])
     ∷ case 5 (P1 ∷ P2 ∷ leaves (releases 501_001 2) 29 0 (has 8 0 0 ∷ []) ∷ [])
     ∷ case 6 (P1 ∷ P2 ∷ P4 ∷ leaves (releases 501_000 3) 29 0 (has 8 20_000_000 0 ∷ []) ∷ [])
@@ -161,4 +216,26 @@ cases =
     ∷ case 12
     (P1 ∷ step (opens 2 2_000) 0 1 ∷ step (opens 3 2_000) 0 2 ∷ step sweeps 0 1 ∷ step sweeps 0 1
     ∷ leaves sweeps 0 0 (has 7 50_000_000 0 ∷ []) ∷ [])
+    -- all agree, the retry too; none is all of none
+    ∷ recorded 101 (entry P1 ∷ entry P2 ∷ entry P3 ∷ []) [] (all-agree 3) (has 7 30_000_000 20_000_000 ∷ has 8 0 0 ∷ [])
+    ∷ recorded 102 [] [] (all-agree 0) []
+    -- the retry recorded as a second hold; another word; an answer that there is not: found at that entry, which has been replayed
+    ∷ recorded 103 (entry P1 ∷ entry P2 ∷ entry-as P3 0 2 ∷ []) [] (verdict 0 DISAGREES 3 (answer 0 2) (answer 11 0)) (has 7 30_000_000 20_000_000 ∷ [])
+    ∷ recorded 104 (entry P1 ∷ entry-as P2 0 2 ∷ entry P4 ∷ []) [] (verdict 0 DISAGREES 2 (answer 0 2) (answer 0 1)) (has 7 30_000_000 20_000_000 ∷ [])
+    ∷ recorded 105 (entry-as P1 255 0 ∷ []) [] (verdict 0 DISAGREES 1 (answer 255 0) (answer 0 0)) (has 7 50_000_000 0 ∷ [])
+    -- one byte of an entry, and all but one; a disagreement before the cut
+    ∷ recorded 106 (entry P1 ∷ []) (MARK-0 ∷ []) (verdict 0 CUT-SHORT 1 (answer 0 0) (answer 0 0)) (has 7 50_000_000 0 ∷ [])
+    ∷ recorded 107 (entry P1 ∷ []) (take 116 (entryBytes (entry P2))) (verdict 0 CUT-SHORT 1 (answer 0 0) (answer 0 0)) (has 7 50_000_000 0 ∷ [])
+    ∷ recorded 108 (entry-as P1 0 1 ∷ []) (MARK-0 ∷ []) (verdict 0 DISAGREES 1 (answer 0 1) (answer 0 0)) []
+    -- a journal with a word too many
+    ∷ record {
+      label = 109;
+      trial = replays (record {
+        on = setJournal (replicate 65 ODD-WORD) tables;
+        entries = entry P1 ∷ [];
+        rest = [];
+        verdict = verdict 1 NOT-REPLAYED 0 (answer 0 0) (answer 0 0);
+        has = [];
+      });
+    }
     ∷ []

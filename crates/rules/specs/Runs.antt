@@ -5,17 +5,21 @@ use mathlib.Core.Logic.{_≢_}
 use mathlib.Core.List.{List, [], _∷_, _++_}
 use mathlib.Core.Bool.{Bool, true, cond, _&&_}
 use Prim.Native.Nat.{ℕ, zero, suc}
+use lib.ListN.{length}
 use lib.Dec.{eqb}
-use Rattle.rules.specs.Limits.{SWEEP, DISAGREES}
+use Rattle.rules.specs.Limits.{ESCROW-LEN, SWEEP, ALL-AGREE, DISAGREES}
 use Rattle.rules.specs.Ledger.{Edition, Ledger, Sized, setHeader, setWallets, setEscrows, setReceipts}
 use Rattle.rules.specs.Record.{readOf}
 use Rattle.rules.specs.Sound.{sound}
-use Rattle.rules.specs.Recording.{Entry, entriesOf}
-use Rattle.rules.specs.Replay.{answer}
+use Rattle.rules.specs.Recording.{Entry, entryOf, entriesOf, recordingOf}
+use Rattle.rules.specs.Replay.{answer, verdict}
 use Rattle.rules.specs.History.{Event, submitted, begun, Said, unbroken}
-use Rattle.rules.specs.Promises.{Adds-up}
+use Rattle.rules.specs.Promises.{Adds-up, Same-lengths}
+use Rattle.rules.specs.Same.{Same-written}
+use Rattle.rules.specs.Agreement.{AllRecords, records}
 use Rattle.rules.specs.Results.{Result, by-fresh, by-submit, by-replay, by-read, by-write, by-status, by-wallet, by-escrow-place, by-escrow-row, by-receipt-place, by-receipt-row, Pair, Meets, Listed, DecidedBy}
 use Rattle.rules.specs.declared.Answer.{Answer}
+use Rattle.rules.specs.declared.Verdict.{Verdict}
 
 -- the slices lent to a call are those of the ledger
 abbrev pub LentOf : Result → Ledger → Type 0
@@ -74,6 +78,20 @@ heardOf (by-escrow-row lent left number part) = []
 heardOf (by-receipt-place lent left number place) = []
 heardOf (by-receipt-row lent left number part) = []
 
+-- what a host records of it: the record submitted, with its answer
+abbrev pub recordedOf : Result → List Entry
+recordedOf (by-fresh lent left number) = []
+recordedOf (by-submit lent left bytes number word) = entryOf bytes number word ∷ []
+recordedOf (by-replay lent left recording verdict) = []
+recordedOf (by-read bytes answer) = []
+recordedOf (by-write s out left number) = []
+recordedOf (by-status number status) = []
+recordedOf (by-wallet lent left id number) = []
+recordedOf (by-escrow-place lent left number place) = []
+recordedOf (by-escrow-row lent left number part) = []
+recordedOf (by-receipt-place lent left number place) = []
+recordedOf (by-receipt-row lent left number part) = []
+
 -- the public calls of one edition: what each did, what that showed, and that by its own contract it is what the definitions give
 pub record Surface : Type 1 where
   pub Did : Type 0
@@ -94,6 +112,10 @@ module _ (S : Surface) where
   abbrev pub heardBy : List (S .Did) → List Event
   heardBy [] = []
   heardBy (d ∷ ds) = heardOf (S .shows d) ++ heardBy ds
+
+  abbrev pub recordedBy : List (S .Did) → List Entry
+  recordedBy [] = []
+  recordedBy (d ∷ ds) = recordedOf (S .shows d) ++ recordedBy ds
 
   -- DEMAND 1
   abbrev pub Calls-are-listed : Type 0
@@ -128,3 +150,13 @@ module _ (S : Surface) where
       e .number ≡ 0 → e .submission .op ≢ SWEEP →
       f .submission .signer ≡ e .submission .signer → f .submission .nonce ≡ e .submission .nonce →
       leftBy (S .shows again) (lastOf L run) ≡ lastOf L run
+
+  -- DOCUMENT 02, REQUEST 1. What was recorded in a run from a start afresh on, by records of 108 bytes, always agrees: all of it, replayed on any
+  -- tables of the same lengths, whatever words they hold. What is left there has the same header and written rows as what the run left.
+  abbrev pub Runs-recordings-agree : Type 0
+  Runs-recordings-agree =
+      (L : Ledger) (start : S .Did) (run : List (S .Did)) → Run L (start ∷ run) → heardOf (S .shows start) ≡ (begun 0 ∷ []) →
+      unbroken (heardBy run) ≡ true → S .edition .escrow ≡ ESCROW-LEN → AllRecords (records (recordedBy run)) →
+      (again : S .Did) (lent left : Ledger) (v : Verdict) → S .shows again ≡ by-replay lent left (recordingOf (recordedBy run)) v →
+      Same-lengths lent L →
+      (v ≡ verdict 0 ALL-AGREE (length (recordedBy run)) (answer 0 0) (answer 0 0)) × Same-written left (lastOf L (start ∷ run))
