@@ -12,7 +12,7 @@ use borrow.Author.Tests.{eqb-false}
 use Rattle.rules.specs.Limits.{ALL-AGREE, DISAGREES}
 use Rattle.rules.specs.Ledger.{Edition, Ledger, Outcome, outcome}
 use Rattle.rules.specs.Submit.{submit}
-use Rattle.rules.specs.Recording.{Entry, entryOf, entriesOf, recordingOf}
+use Rattle.rules.specs.Recording.{Entry, asEntry, entriesOf, recordingOf}
 use Rattle.rules.specs.Replay.{Gone, gone, told, replay, recordedFrom, ledgerAfter, verdict, answer}
 use Rattle.rules.specs.History.{Call, starts-afresh, submits, reads, writes, asks-status, finds-wallet, finds-escrow, finds-receipt, Event, begun, unbroken, after, said}
 use Rattle.rules.specs.Promises.{started}
@@ -32,7 +32,7 @@ use Rattle.rules.proofs.Runs.{callsOf, Did-as, did-as, run-edition, len
 -- a call that is recorded: its record was submitted, and answered so
 record Submitted (r : Result) (L : Ledger) : Type 0 where
   bytes : List ℕ
-  recorded : recordedOf r ≡ (entryOf bytes (submit L bytes .number) (submit L bytes .word) ∷ [])
+  recorded : recordedOf r ≡ (asEntry bytes (submit L bytes .number) (submit L bytes .word) ∷ [])
   left : leftBy r L ≡ submit L bytes .left
 
 -- a call that is not, and leaves the ledger
@@ -54,7 +54,7 @@ what-is-recorded e (by-fresh lent left number) L m l u =
     inr (record { recorded = refl; left = refused _ l (not-begun number [] u) (listed e (by-fresh lent left number) m) })
 what-is-recorded e (by-submit lent left bytes number word) L m l u =
     let o : outcome number word left ≡ submit L bytes = m .1 ∙ ap (λ (K : Ledger). submit K bytes) l in
-    inl (record { bytes = bytes; recorded = ap (λ (x : Outcome). entryOf bytes (x .number) (x .word) ∷ []) o; left = ap (λ (x : Outcome). x .left) o })
+    inl (record { bytes = bytes; recorded = ap (λ (x : Outcome). asEntry bytes (x .number) (x .word) ∷ []) o; left = ap (λ (x : Outcome). x .left) o })
 what-is-recorded e (by-replay lent left recording verdict) L m l u =
     let heard = heardIn (eqb (verdict .finding) DISAGREES) (verdict .answered) (verdict .replayed) (entriesOf recording) in
     inr (record { recorded = refl; left = refused _ l (not-begun (verdict .number) heard u) (listed e (by-replay lent left recording verdict) m) })
@@ -112,7 +112,7 @@ module _ (S : Surface) where
           let b : As-recorded (submit L (x .bytes) .left) (recordedBy S ds) last = subst (λ (K : Ledger). As-recorded K (recordedBy S ds) last) (x .left) a in
           subst (λ (l : List Entry). As-recorded L (l ++ recordedBy S ds) last) (sym (x .recorded))
           (record {
-            entries = ap (λ (es : List Entry). entryOf (x .bytes) (submit L (x .bytes) .number) (submit L (x .bytes) .word) ∷ es) (b .entries);
+            entries = ap (λ (es : List Entry). asEntry (x .bytes) (submit L (x .bytes) .number) (submit L (x .bytes) .word) ∷ es) (b .entries);
             left = b .left;
           })
       go (inr x) a =

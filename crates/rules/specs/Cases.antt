@@ -11,7 +11,7 @@ use Rattle.rules.specs.Limits.{GRANT, TRANSFER, OPEN, RELEASE, CLAIM, AC
 use Rattle.rules.specs.Ledger.{Ledger, ledger, setJournal, fresh, walletOf, receipt}
 use Rattle.rules.specs.Record.{encode}
 use Rattle.rules.specs.Submit.{submit}
-use Rattle.rules.specs.Recording.{Entry, entryOf, entryBytes, recordingOf}
+use Rattle.rules.specs.Recording.{Entry, asEntry, entryBytes, recordingOf}
 use Rattle.rules.specs.Replay.{replay, answer, verdict, verdictOf}
 use Rattle.rules.specs.declared.Answer.{Answer}
 use Rattle.rules.specs.declared.Submission.{Submission}
@@ -169,10 +169,10 @@ sweeps = sub SWEEP 0 3_000 0 0 0 0 0 1 0 0
 
 -- a step as it is recorded, and with another answer in its place
 abbrev entry : Step → Entry
-entry x = entryOf (encode (x .submission)) (x .number) (x .word)
+entry x = asEntry (encode (x .submission)) (x .number) (x .word)
 
 abbrev entry-as : Step → ℕ → ℕ → Entry
-entry-as x number word = entryOf (encode (x .submission)) number word
+entry-as x number word = asEntry (encode (x .submission)) number word
 
 -- a recording replayed on the tables
 abbrev recorded : ℕ → List Entry → List ℕ → Verdict → List Has → Case

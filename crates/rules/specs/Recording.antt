@@ -14,14 +14,14 @@ pub record Entry : Type 0 where
   pub number : ℕ
   pub word : ℕ
 
-abbrev pub entryOf : List ℕ → ℕ → ℕ → Entry
-entryOf bytes number word = record { bytes = bytes; number = number; word = word }
+abbrev pub asEntry : List ℕ → ℕ → ℕ → Entry
+asEntry bytes number word = record { bytes = bytes; number = number; word = word }
 
 -- entry k of a recording, counted from 0
 unfoldable pub entryAt : List ℕ → ℕ → Entry
 entryAt r k =
     let at = k * ENTRY-BYTES in
-    entryOf (take RECORD-BYTES (drop at r)) (getD r (at + ANSWER-AT) 0) (leAt 8 r (at + WORD-AT))
+    asEntry (take RECORD-BYTES (drop at r)) (getD r (at + ANSWER-AT) 0) (leAt 8 r (at + WORD-AT))
 
 -- n entries, from entry k on
 unfoldable pub entriesFrom : List ℕ → ℕ → ℕ → List Entry

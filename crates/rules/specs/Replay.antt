@@ -6,7 +6,7 @@ use Prim.Native.Nat.{ℕ, _+_}
 use lib.Dec.{eqb}
 use Rattle.rules.specs.Limits.{NOT-REPLAYED, ALL-AGREE, CUT-SHORT, DISAGREES}
 use Rattle.rules.specs.Ledger.{Ledger, Outcome, lengthsRight, fresh}
-use Rattle.rules.specs.Recording.{Entry, entryOf, entriesOf, cutShort}
+use Rattle.rules.specs.Recording.{Entry, asEntry, entriesOf, cutShort}
 use Rattle.rules.specs.declared.Answer.{Answer}
 use Rattle.rules.specs.declared.Found.{Found}
 use Rattle.rules.specs.declared.Found.the-variants.{WrongLength, AllAgree, CutShort, Disagrees}
@@ -94,7 +94,7 @@ told g = gone (verdictOf (g .found)) (g .left)
 -- the entries that records make, submitted one after the other from a ledger on, and the ledger that they leave
 abbrev pub recordedFrom : Rule → Ledger → List (List ℕ) → List Entry
 recordedFrom rule L [] = []
-recordedFrom rule L (b ∷ bs) = entryOf b (rule L b .number) (rule L b .word) ∷ recordedFrom rule (rule L b .left) bs
+recordedFrom rule L (b ∷ bs) = asEntry b (rule L b .number) (rule L b .word) ∷ recordedFrom rule (rule L b .left) bs
 
 abbrev pub ledgerAfter : Rule → Ledger → List (List ℕ) → Ledger
 ledgerAfter rule L [] = L

@@ -11,7 +11,7 @@ use Rattle.rules.specs.Limits.{ESCROW-LEN, SWEEP, ALL-AGREE, DISAGREES}
 use Rattle.rules.specs.Ledger.{Edition, Ledger, Sized, setHeader, setWallets, setEscrows, setReceipts}
 use Rattle.rules.specs.Record.{readOf}
 use Rattle.rules.specs.Sound.{sound}
-use Rattle.rules.specs.Recording.{Entry, entryOf, entriesOf, recordingOf}
+use Rattle.rules.specs.Recording.{Entry, asEntry, entriesOf, recordingOf}
 use Rattle.rules.specs.Replay.{answer, verdict}
 use Rattle.rules.specs.History.{Event, submitted, begun, Said, unbroken}
 use Rattle.rules.specs.Promises.{Adds-up, Same-lengths}
@@ -81,7 +81,7 @@ heardOf (by-receipt-row lent left number part) = []
 -- what a host records of it: the record submitted, with its answer
 abbrev pub recordedOf : Result → List Entry
 recordedOf (by-fresh lent left number) = []
-recordedOf (by-submit lent left bytes number word) = entryOf bytes number word ∷ []
+recordedOf (by-submit lent left bytes number word) = asEntry bytes number word ∷ []
 recordedOf (by-replay lent left recording verdict) = []
 recordedOf (by-read bytes answer) = []
 recordedOf (by-write s out left number) = []
