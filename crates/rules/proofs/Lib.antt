@@ -43,3 +43,8 @@ pub mod Books
 pub mod Results
 pub mod Runs
 pub mod Sole
+-- recordings: header and written rows alone decide
+pub mod SameTables
+pub mod SameReads
+pub mod SameSound
+pub mod SameRefusals
