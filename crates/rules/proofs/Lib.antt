@@ -48,3 +48,5 @@ pub mod SameTables
 pub mod SameReads
 pub mod SameSound
 pub mod SameRefusals
+pub mod SameMoves
+pub mod SameSettle

@@ -1,15 +1,14 @@
 -- What is read of a ledger is read of its header and its written rows. Two ledgers that are the same there have the same words in each written
 -- row, the same row for each wallet's id, and the same to say of every row, of some row and of all rows added up.
-use mathlib.Core.Path.{_≡_, refl, ap, ap₂, _∙_}
-use mathlib.Core.List.{List}
+use mathlib.Core.Path.{_≡_, refl, ap, ap₂}
 use mathlib.Core.Bool.{Bool, true, false, _&&_}
 use Prim.Native.Nat.{ℕ, _-_, _≤_, _<_}
 use native.Mathlib.Omega.{arith}
-use lib.ListN.{getD, length}
-use lib.Dec.{eqb, ltb, lit<}
-use Rattle.rules.specs.Limits.{WALLET-LEN, RECEIPT-LEN, JOURNAL-LEN, WALLETS, ESCROWS, ID}
-use Rattle.rules.specs.Table.{word, every, some, sum, seek}
-use Rattle.rules.specs.Ledger.{Edition, Ledger, head, wallet, escrow, receipt, entry, walletCount, escrowCount, receiptCount, entryCount}
+use lib.ListN.{length}
+use lib.Dec.{eqb, lit<}
+use Rattle.rules.specs.Limits.{WALLET-LEN, RECEIPT-LEN, JOURNAL-LEN, ID}
+use Rattle.rules.specs.Table.{every, some, sum}
+use Rattle.rules.specs.Ledger.{Ledger, head, wallet, escrow, receipt, entry, walletCount, escrowCount, receiptCount, entryCount}
 use Rattle.rules.specs.Ledger.{rowOf, walletRow, hasWallet, walletOf, written}
 use Rattle.rules.specs.Refusals.{ofEscrow}
 use Rattle.rules.specs.Promises.{Same-lengths}
@@ -38,15 +37,14 @@ module _ (K L : Ledger) (a : Same-written K L) where
   -- ---- words
 
   pub head-same : (k : ℕ) → head K k ≡ head L k
-  head-same k = ap (λ (h : List ℕ). getD h k 0) (a .header)
+  head-same k = rw (a .header)
 
   pub wallet-same : (i : ℕ) → i < walletCount L → (k : ℕ) → k < WALLET-LEN → wallet K i k ≡ wallet L i k
   wallet-same = same-word WALLET-LEN (walletCount L) (K .wallets) (L .wallets) (a .wallets)
 
   pub escrow-same : 8 ≤ L .edition .escrow → (i : ℕ) → i < escrowCount L → (k : ℕ) → k < 8 → escrow K i k ≡ escrow L i k
   escrow-same wide i i< k k< =
-      ap (λ (e : Edition). word (K .escrows) (e .escrow) i k) (a .edition)
-      ∙ same-word (L .edition .escrow) (escrowCount L) (K .escrows) (L .escrows) (a .escrows) i i< k (omega arith)
+      rw (a .edition) (same-word (L .edition .escrow) (escrowCount L) (K .escrows) (L .escrows) (a .escrows) i i< k (omega arith))
 
   pub receipt-same : (i : ℕ) → i < receiptCount L → (k : ℕ) → k < RECEIPT-LEN → receipt K i k ≡ receipt L i k
   receipt-same = same-word RECEIPT-LEN (receiptCount L) (K .receipts) (L .receipts) (a .receipts)
@@ -58,30 +56,29 @@ module _ (K L : Ledger) (a : Same-written K L) where
   pub of-escrow-same : 8 ≤ L .edition .escrow → (n : ℕ) (f : ℕ → ℕ → Bool) (k l : ℕ) → k < 8 → l < 8
       → ofEscrow K n (f (escrow K (n - 1) k) (escrow K (n - 1) l)) ≡ ofEscrow L n (f (escrow L (n - 1) k) (escrow L (n - 1) l))
   of-escrow-same wide n f k l k< l< =
-      guarded _ _ _ _ (ap (λ (c : ℕ). written c n) (head-same ESCROWS))
+      guarded (written (escrowCount K) n) (written (escrowCount L) n) _ _ (rw (a .header))
       (λ there. let w = escrow-same wide (n - 1) (written-row (escrowCount L) n there) in ap₂ f (w k k<) (w l l<))
 
   -- ---- what is said of the rows that word c of the header counts
 
   pub every-same : (c : ℕ) (p q : ℕ → Bool) → ((i : ℕ) → i < head L c → p i ≡ q i) → every (head K c) p ≡ every (head L c) q
-  every-same c p q e = ap (λ (n : ℕ). every n p) (head-same c) ∙ every-ext (head L c) p q e
+  every-same c p q e = rw (a .header) (every-ext (head L c) p q e)
 
   pub some-same : (c : ℕ) (p q : ℕ → Bool) → ((i : ℕ) → i < head L c → p i ≡ q i) → some (head K c) p ≡ some (head L c) q
-  some-same c p q e = ap (λ (n : ℕ). some n p) (head-same c) ∙ some-ext (head L c) p q e
+  some-same c p q e = rw (a .header) (some-ext (head L c) p q e)
 
   pub sum-same : (c : ℕ) (f g : ℕ → ℕ) → ((i : ℕ) → i < head L c → f i ≡ g i) → sum (head K c) f ≡ sum (head L c) g
-  sum-same c f g e = ap (λ (n : ℕ). sum n f) (head-same c) ∙ sum-ext (head L c) f g e
+  sum-same c f g e = rw (a .header) (sum-ext (head L c) f g e)
 
   -- ---- wallets by id
 
   pub row-same : (id : ℕ) → walletRow K id ≡ walletRow L id
   unfolding rowOf
   row-same id =
-      ap (λ (n : ℕ). seek n (λ i. eqb (wallet K i ID) id)) (head-same WALLETS)
-      ∙ seek-ext (walletCount L) _ _ (λ i h. ap (λ (x : ℕ). eqb x id) (wallet-same i h ID (lit< tt)))
+      rw (a .header) (seek-ext (walletCount L) (λ i. eqb (wallet K i ID) id) (λ i. eqb (wallet L i ID) id) (λ i h. rw (wallet-same i h ID (lit< tt))))
 
   pub has-same : (id : ℕ) → hasWallet K id ≡ hasWallet L id
-  has-same id = ap₂ ltb (row-same id) (head-same WALLETS)
+  has-same id = rw (row-same id, a .header)
 
   pub of-same : (id k : ℕ) → walletRow L id < walletCount L → k < WALLET-LEN → walletOf K id k ≡ walletOf L id k
-  of-same id k h k< = ap (λ (i : ℕ). wallet K i k) (row-same id) ∙ wallet-same (walletRow L id) h k k<
+  of-same id k h k< = rw (row-same id, wallet-same (walletRow L id) h k k<)

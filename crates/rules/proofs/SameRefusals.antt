@@ -5,7 +5,7 @@ use mathlib.Core.Bool.{Bool, not, _&&_, _||_}
 use Prim.Native.Nat.{ℕ, _+_, _-_, _≤_, _<_}
 use lib.Dec.{eqb, ltb, leb, lit<}
 use borrow.Author.Tests.{ltb-true}
-use Rattle.rules.specs.Limits.{WALLET-LEN, RECEIPT-LEN, SYSTEM-FROZEN, CLOCK, GRANTED, WALLETS, ESCROWS, RECEIPTS, ENTRIES}
+use Rattle.rules.specs.Limits.{WALLET-LEN, RECEIPT-LEN, ENTRIES}
 use Rattle.rules.specs.Limits.{BALANCE, FROZEN, TX-CAP, DAILY-CAP, FROM, TO, ESCROW-DEADLINE, ESCROW-STATE, IS-OPEN, REQUESTER, RECEIPT-STATE, PENDING}
 use Rattle.rules.specs.Limits.{SIGNER, NONCE, OPERATION, ENTRY-AMOUNT, SETTLED-AT, ADMIN}
 use Rattle.rules.specs.Ledger.{Ledger, receipt, receiptCount, walletOf, written}
@@ -17,7 +17,7 @@ use Rattle.rules.specs.declared.Submission.{Submission}
 use Rattle.rules.specs.declared.Read.{Read}
 use Rattle.rules.proofs.Passed.{written-row}
 use Rattle.rules.proofs.Lengths.{lengths-right}
-use Rattle.rules.proofs.SameReads.{guarded, lengths-of, head-same, of-escrow-same, receipt-same, entry-same, some-same, sum-same, has-same, of-same}
+use Rattle.rules.proofs.SameReads.{guarded, lengths-of, of-escrow-same, receipt-same, entry-same, some-same, sum-same, has-same, of-same}
 use Rattle.rules.proofs.SameSound.{sound-same}
 
 module _ (K L : Ledger) (a : Same-written K L) (wide : 8 ≤ L .edition .escrow) where
@@ -44,7 +44,7 @@ module _ (K L : Ledger) (a : Same-written K L) (wide : 8 ≤ L .edition .escrow)
 
   of-receipt-same : (n : ℕ) (f : ℕ → Bool) (k : ℕ) → k < RECEIPT-LEN → ofReceipt K n (f (receipt K (n - 1) k)) ≡ ofReceipt L n (f (receipt L (n - 1) k))
   of-receipt-same n f k k< =
-      guarded _ _ _ _ (ap (λ (c : ℕ). written c n) (head-same K L a RECEIPTS))
+      guarded (written (receiptCount K) n) (written (receiptCount L) n) _ _ (rw (a .header))
       (λ there. ap f (receipt-same K L a (n - 1) (written-row (receiptCount L) n there) k k<))
 
   -- ---- the table
@@ -55,7 +55,7 @@ module _ (K L : Ledger) (a : Same-written K L) (wide : 8 ≤ L .edition .escrow)
 
   envelope-rows : (s : Submission) → envelopeRefusals K s ≡ envelopeRefusals L s
   unfolding envelopeRefusals
-  envelope-rows s = rw (seen-same (s .signer) (s .nonce), head-same K L a CLOCK, head-same K L a SYSTEM-FROZEN)
+  envelope-rows s = rw (seen-same (s .signer) (s .nonce), a .header)
 
   operation-rows : (s : Submission) → operationRefusals K s ≡ operationRefusals L s
   unfolding operationRefusals
@@ -76,11 +76,7 @@ module _ (K L : Ledger) (a : Same-written K L) (wide : 8 ≤ L .edition .escrow)
         of-receipt-same (s .target) (λ x. not (eqb x PENDING)) RECEIPT-STATE (lit< tt),
         has-same K L a (s .signer),
         has-same K L a (s .target),
-        head-same K L a GRANTED,
-        head-same K L a WALLETS,
-        head-same K L a ESCROWS,
-        head-same K L a RECEIPTS,
-        head-same K L a ENTRIES,
+        a .header,
         a .wallets .lengths,
         a .escrows .lengths,
         a .receipts .lengths,

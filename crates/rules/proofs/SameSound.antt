@@ -3,7 +3,7 @@ use mathlib.Core.Path.{_≡_}
 use mathlib.Core.Bool.{_&&_}
 use Prim.Native.Nat.{ℕ, _≤_, _<_}
 use lib.Dec.{eqb, lit<}
-use Rattle.rules.specs.Limits.{EDITION, SYSTEM-FROZEN, CLOCK, GRANTED, WALLETS, ESCROWS, RECEIPTS, ENTRIES, ID, BALANCE, LOCKED, FROZEN}
+use Rattle.rules.specs.Limits.{WALLETS, ESCROWS, RECEIPTS, ENTRIES, ID, BALANCE, LOCKED, FROZEN}
 use Rattle.rules.specs.Limits.{FROM, TO, ESCROW-AMOUNT, ESCROW-DEADLINE, ESCROW-STATE, OPENED-AT, ESCROW-CLOSED-AT}
 use Rattle.rules.specs.Limits.{PROVIDER, REQUESTER, RECEIPT-LINK, ACCEPTANCE-DEADLINE, AUTO-ACCEPT, RECEIPT-STATE, CLAIMED-AT, RECEIPT-CLOSED-AT}
 use Rattle.rules.specs.Limits.{OPERATION, ENTRY-AMOUNT, SETTLED-AT}
@@ -12,26 +12,11 @@ use Rattle.rules.specs.Ledger.{Ledger, wallet, escrow, receipt, walletCo
 use Rattle.rules.specs.Sound.{headerTests, walletTests, escrowTests, linkRight, receiptTests, entryTests, heldIn, credits, sound}
 use Rattle.rules.specs.Same.{Same-written}
 use Rattle.rules.proofs.Counts.{distinct-ext}
-use Rattle.rules.proofs.SameReads.{head-same, wallet-same, escrow-same, of-escrow-same, receipt-same, entry-same, every-same, sum-same, has-same}
+use Rattle.rules.proofs.SameReads.{wallet-same, escrow-same, of-escrow-same, receipt-same, entry-same, every-same, sum-same, has-same}
 
 module _ (K L : Ledger) (a : Same-written K L) (wide : 8 ≤ L .edition .escrow) where
   header-tests : all (headerTests K) ≡ all (headerTests L)
-  header-tests =
-      let h = head-same K L a in
-      rw (
-        h EDITION,
-        h SYSTEM-FROZEN,
-        h CLOCK,
-        h WALLETS,
-        h ESCROWS,
-        h RECEIPTS,
-        h ENTRIES,
-        a .wallets .lengths,
-        a .escrows .lengths,
-        a .receipts .lengths,
-        a .journal .lengths,
-        a .edition,
-      )
+  header-tests = rw (a .header, a .edition, a .wallets .lengths, a .escrows .lengths, a .receipts .lengths, a .journal .lengths)
 
   wallet-tests : (i : ℕ) → i < walletCount L → all (walletTests K i) ≡ all (walletTests L i)
   wallet-tests i h = let w = wallet-same K L a i h in rw (w ID (lit< tt), w FROZEN (lit< tt))
@@ -82,7 +67,7 @@ module _ (K L : Ledger) (a : Same-written K L) (wide : 8 ≤ L .edition .escrow)
 
   distinct-test : distinct (walletCount K) (λ i. wallet K i ID) ≡ distinct (walletCount L) (λ i. wallet L i ID)
   distinct-test =
-      rw (head-same K L a WALLETS)
+      rw (a .header)
       (distinct-ext (walletCount L) (λ i. wallet K i ID) (λ i. wallet L i ID) (λ i h. wallet-same K L a i h ID (lit< tt)))
 
   credits-same : credits K ≡ credits L
@@ -103,5 +88,5 @@ module _ (K L : Ledger) (a : Same-written K L) (wide : 8 ≤ L .edition .escrow)
         e ENTRIES _ _ entry-tests,
         e WALLETS _ _ locked-test,
         credits-same,
-        head-same K L a GRANTED,
+        a .header,
       )
