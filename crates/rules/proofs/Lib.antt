@@ -50,3 +50,5 @@ pub mod SameSound
 pub mod SameRefusals
 pub mod SameMoves
 pub mod SameSettle
+pub mod Words
+pub mod Entries
