@@ -52,3 +52,4 @@ pub mod SameMoves
 pub mod SameSettle
 pub mod Words
 pub mod Entries
+pub mod Recordings
