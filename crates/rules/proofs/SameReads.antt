@@ -1,5 +1,5 @@
 -- What is read of a ledger is read of its header and its written rows. Two ledgers that are the same there have the same words in each written
--- row, the same row for each wallet's id, and the same to say of every row, of some row and of all rows added up.
+-- row, the same row for each wallet's id, and the same tests of every row.
 use mathlib.Core.Path.{_≡_, refl, ap, ap₂}
 use mathlib.Core.Bool.{Bool, true, false, _&&_}
 use Prim.Native.Nat.{ℕ, _-_, _≤_, _<_}
@@ -7,13 +7,13 @@ use native.Mathlib.Omega.{arith}
 use lib.ListN.{length}
 use lib.Dec.{eqb, lit<}
 use Rattle.rules.specs.Limits.{WALLET-LEN, RECEIPT-LEN, JOURNAL-LEN, ID}
-use Rattle.rules.specs.Table.{every, some, sum}
+use Rattle.rules.specs.Table.{every}
 use Rattle.rules.specs.Ledger.{Ledger, head, wallet, escrow, receipt, entry, walletCount, escrowCount, receiptCount, entryCount}
 use Rattle.rules.specs.Ledger.{rowOf, walletRow, hasWallet, walletOf, written}
 use Rattle.rules.specs.Refusals.{ofEscrow}
 use Rattle.rules.specs.Promises.{Same-lengths}
 use Rattle.rules.specs.Same.{Same-written}
-use Rattle.rules.proofs.Counts.{sum-ext, every-ext, some-ext}
+use Rattle.rules.proofs.Counts.{every-ext}
 use Rattle.rules.proofs.Seek.{seek-ext}
 use Rattle.rules.proofs.Passed.{written-row}
 use Rattle.rules.proofs.SameTables.{same-word}
@@ -59,16 +59,10 @@ module _ (K L : Ledger) (a : Same-written K L) where
       guarded (written (escrowCount K) n) (written (escrowCount L) n) _ _ (rw (a .header))
       (λ there. let w = escrow-same wide (n - 1) (written-row (escrowCount L) n there) in ap₂ f (w k k<) (w l l<))
 
-  -- ---- what is said of the rows that word c of the header counts
+  -- ---- what is tested of the rows that word c of the header counts
 
   pub every-same : (c : ℕ) (p q : ℕ → Bool) → ((i : ℕ) → i < head L c → p i ≡ q i) → every (head K c) p ≡ every (head L c) q
   every-same c p q e = rw (a .header) (every-ext (head L c) p q e)
-
-  pub some-same : (c : ℕ) (p q : ℕ → Bool) → ((i : ℕ) → i < head L c → p i ≡ q i) → some (head K c) p ≡ some (head L c) q
-  some-same c p q e = rw (a .header) (some-ext (head L c) p q e)
-
-  pub sum-same : (c : ℕ) (f g : ℕ → ℕ) → ((i : ℕ) → i < head L c → f i ≡ g i) → sum (head K c) f ≡ sum (head L c) g
-  sum-same c f g e = rw (a .header) (sum-ext (head L c) f g e)
 
   -- ---- wallets by id
 

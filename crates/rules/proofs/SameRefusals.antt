@@ -5,7 +5,7 @@ use mathlib.Core.Bool.{Bool, not, _&&_, _||_}
 use Prim.Native.Nat.{ℕ, _+_, _-_, _≤_, _<_}
 use lib.Dec.{eqb, ltb, leb, lit<}
 use borrow.Author.Tests.{ltb-true}
-use Rattle.rules.specs.Limits.{WALLET-LEN, RECEIPT-LEN, ENTRIES}
+use Rattle.rules.specs.Limits.{WALLET-LEN, RECEIPT-LEN}
 use Rattle.rules.specs.Limits.{BALANCE, FROZEN, TX-CAP, DAILY-CAP, FROM, TO, ESCROW-DEADLINE, ESCROW-STATE, IS-OPEN, REQUESTER, RECEIPT-STATE, PENDING}
 use Rattle.rules.specs.Limits.{SIGNER, NONCE, OPERATION, ENTRY-AMOUNT, SETTLED-AT, ADMIN}
 use Rattle.rules.specs.Ledger.{Ledger, receipt, receiptCount, walletOf, written}
@@ -15,9 +15,10 @@ use Rattle.rules.specs.Submit.{answerOf}
 use Rattle.rules.specs.Same.{Same-written}
 use Rattle.rules.specs.declared.Submission.{Submission}
 use Rattle.rules.specs.declared.Read.{Read}
+use Rattle.rules.proofs.Counts.{sum-ext, some-ext}
 use Rattle.rules.proofs.Passed.{written-row}
 use Rattle.rules.proofs.Lengths.{lengths-right}
-use Rattle.rules.proofs.SameReads.{guarded, lengths-of, of-escrow-same, receipt-same, entry-same, some-same, sum-same, has-same, of-same}
+use Rattle.rules.proofs.SameReads.{guarded, lengths-of, of-escrow-same, receipt-same, entry-same, has-same, of-same}
 use Rattle.rules.proofs.SameSound.{sound-same}
 
 module _ (K L : Ledger) (a : Same-written K L) (wide : 8 ≤ L .edition .escrow) where
@@ -25,17 +26,14 @@ module _ (K L : Ledger) (a : Same-written K L) (wide : 8 ≤ L .edition .escrow)
 
   seen-same : (g n : ℕ) → seen K g n ≡ seen L g n
   unfolding seen seenIn
-  seen-same g n =
-      some-same K L a ENTRIES _ _
-      (λ i h. let w = entry-same K L a i h in rw (w SIGNER (lit< tt), w NONCE (lit< tt)))
+  seen-same g n = rw (a .header) (some-ext _ _ _ (λ i h. let w = entry-same K L a i h in rw (w SIGNER (lit< tt), w NONCE (lit< tt))))
 
   counted-same : (g now : ℕ) → counted K g now ≡ counted L g now
   unfolding counted countedOf
   counted-same g now =
-      sum-same K L a ENTRIES _ _
-      (λ i h.
-      let w = entry-same K L a i h in
-      rw (w SIGNER (lit< tt), w OPERATION (lit< tt), w SETTLED-AT (lit< tt), w ENTRY-AMOUNT (lit< tt)))
+      rw (a .header)
+      (sum-ext _ _ _
+      (λ i h. let w = entry-same K L a i h in rw (w SIGNER (lit< tt), w OPERATION (lit< tt), w SETTLED-AT (lit< tt), w ENTRY-AMOUNT (lit< tt))))
 
   -- ---- conditions on a row that is there: the signer's wallet, and a receipt
 

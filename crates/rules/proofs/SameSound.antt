@@ -11,8 +11,8 @@ use Rattle.rules.specs.Table.{all, sum, distinct}
 use Rattle.rules.specs.Ledger.{Ledger, wallet, escrow, receipt, walletCount, escrowCount, receiptCount, entryCount}
 use Rattle.rules.specs.Sound.{headerTests, walletTests, escrowTests, linkRight, receiptTests, entryTests, heldIn, credits, sound}
 use Rattle.rules.specs.Same.{Same-written}
-use Rattle.rules.proofs.Counts.{distinct-ext}
-use Rattle.rules.proofs.SameReads.{wallet-same, escrow-same, of-escrow-same, receipt-same, entry-same, every-same, sum-same, has-same}
+use Rattle.rules.proofs.Counts.{sum-ext, distinct-ext}
+use Rattle.rules.proofs.SameReads.{head-same, wallet-same, escrow-same, of-escrow-same, receipt-same, entry-same, every-same, has-same}
 
 module _ (K L : Ledger) (a : Same-written K L) (wide : 8 ≤ L .edition .escrow) where
   header-tests : all (headerTests K) ≡ all (headerTests L)
@@ -63,7 +63,7 @@ module _ (K L : Ledger) (a : Same-written K L) (wide : 8 ≤ L .edition .escrow)
   locked-test i h =
       let w = wallet-same K L a i h in
       let id : ℕ = wallet L i ID in
-      rw (w LOCKED (lit< tt), w ID (lit< tt), sum-same K L a ESCROWS (heldIn K id) (heldIn L id) (held-same id))
+      rw (w LOCKED (lit< tt), w ID (lit< tt), head-same K L a ESCROWS, sum-ext (escrowCount L) (heldIn K id) (heldIn L id) (held-same id))
 
   distinct-test : distinct (walletCount K) (λ i. wallet K i ID) ≡ distinct (walletCount L) (λ i. wallet L i ID)
   distinct-test =
@@ -72,8 +72,7 @@ module _ (K L : Ledger) (a : Same-written K L) (wide : 8 ≤ L .edition .escrow)
 
   credits-same : credits K ≡ credits L
   unfolding credits
-  credits-same =
-      sum-same K L a WALLETS _ _ (λ i h. let w = wallet-same K L a i h in rw (w BALANCE (lit< tt), w LOCKED (lit< tt)))
+  credits-same = rw (a .header) (sum-ext _ _ _ (λ i h. let w = wallet-same K L a i h in rw (w BALANCE (lit< tt), w LOCKED (lit< tt))))
 
   pub sound-same : sound K ≡ sound L
   unfolding sound
