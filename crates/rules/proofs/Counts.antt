@@ -115,6 +115,11 @@ unfolding every
 every-ext zero p q e = refl
 every-ext (suc n) p q e = ap₂ _&&_ (every-ext n p q (λ i h. e i (omega arith))) (e n (omega arith))
 
+pub some-ext : (n : ℕ) (p q : ℕ → Bool) → ((i : ℕ) → i < n → p i ≡ q i) → some n p ≡ some n q
+unfolding some
+some-ext zero p q e = refl
+some-ext (suc n) p q e = ap₂ _||_ (some-ext n p q (λ i h. e i (omega arith))) (e n (omega arith))
+
 -- a loop that carries the answer so far
 pub every-none : (p : ℕ → Bool) → every 0 p ≡ true
 unfolding every

@@ -7,7 +7,7 @@ use native.Mathlib.Nat.{pow-suc}
 use native.Mathlib.Numerals.{add-one}
 use native.Mathlib.Omega.{arith}
 use lib.ListN.{getD, length, take, drop}
-use lib.Seq.{drop-cons, take-add, drop-drop}
+use lib.Seq.{drop-cons, take-add, drop-drop, getD-append-add}
 use Rattle.rules.specs.Record.{leAt, leBytes, wordBytes}
 use Rattle.rules.specs.Promises.{Bytes}
 
@@ -15,6 +15,10 @@ use Rattle.rules.specs.Promises.{Bytes}
 abbrev pub AllBelow : ℕ → List ℕ → Type 0
 AllBelow m [] = Unit {0}
 AllBelow m (x ∷ xs) = (x < m) × AllBelow m xs
+
+pub le-length : (n x : ℕ) → length (leBytes n x) ≡ n
+le-length zero x = refl
+le-length (suc n) x = ap suc (le-length n (x / 256))
 
 -- the number that n bytes of x say: `leAt` computes to it where those bytes stand
 abbrev pub leSum : ℕ → ℕ → ℕ
@@ -31,6 +35,13 @@ sum-is (suc n) x h =
 pub sums-are : (n : ℕ) (ws : List ℕ) → AllBelow (256 ^ n) ws → map (leSum n) ws ≡ ws
 sums-are n [] h = refl
 sums-are n (w ∷ ws) h = ap₂ (λ (x : ℕ) (xs : List ℕ). x ∷ xs) (sum-is n w (h .0)) (sums-are n ws (h .1))
+
+-- a number that stands behind other bytes
+pub le-behind : (n : ℕ) (p r : List ℕ) (q : ℕ) → leAt n (p ++ r) (length p + q) ≡ leAt n r q
+le-behind zero p r q = refl
+le-behind (suc n) p r q =
+    let e : length p + q + 1 ≡ length p + (q + 1) = omega arith in
+    rw (getD-append-add p r q 0, e, le-behind n p r (q + 1))
 
 -- the bytes of the number at p are those that stand there
 pub bytes-are : (n : ℕ) (s : List ℕ) (p : ℕ) → Bytes s → p + n ≤ length s → leBytes n (leAt n s p) ≡ take n (drop p s)

@@ -38,6 +38,7 @@ pub mod GoodRows
 pub mod SoundStays
 pub mod SoundParts
 pub mod SoundAlways
+pub mod Ready
 pub mod Books
 pub mod Heard
 pub mod Replays
@@ -45,3 +46,13 @@ pub mod Results
 pub mod Runs
 pub mod Recorded
 pub mod Sole
+-- recordings: header and written rows alone decide
+pub mod SameTables
+pub mod SameReads
+pub mod SameSound
+pub mod SameRefusals
+pub mod SameMoves
+pub mod SameSettle
+pub mod Words
+pub mod Entries
+pub mod Recordings

@@ -8,8 +8,8 @@ use Prim.Native.Nat.{ℕ, _+_, _-_, _≤_, _<_}
 use native.Mathlib.Omega.{arith}
 use lib.Dec.{eqb, leb}
 use borrow.Author.Tests.{eqb-true, eqb-false, ne-eqb, ltb-true, ltb-false, leb-true, leb-false}
-use Rattle.rules.specs.Limits.{WALLET-LEN, RECEIPT-LEN, MAX-AMOUNT-MICRO, MAX-GRANTED-MICRO, GRANTED, BALANCE, FROM, TO, ESCROW-STATE, ESCROW-DEADLINE, IS-OPEN}
-use Rattle.rules.specs.Limits.{GRANT, TRANSFER, OPEN, CLAIM, ACCEPT, DISPUTE}
+use Rattle.rules.specs.Limits.{WALLET-LEN, RECEIPT-LEN, MAX-AMOUNT-MICRO, MAX-GRANTED-MICRO, MAX-SWEEP-ROWS, GRANTED, BALANCE, FROM, TO, ESCROW-STATE, ESCROW-DEADLINE, IS-OPEN}
+use Rattle.rules.specs.Limits.{GRANT, TRANSFER, OPEN, CLAIM, ACCEPT, DISPUTE, SWEEP}
 use Rattle.rules.specs.Table.{rowsIn}
 use Rattle.rules.specs.Ledger.{Ledger, head, escrow, walletCount, escrowCount, receiptCount, walletRow, hasWallet, walletOf, written}
 use Rattle.rules.specs.Sound.{between}
@@ -44,6 +44,12 @@ module _ (L : Ledger) (r : Read) (z : answerOf L r ≡ 0) where
 
   pub amount-high : oneOf (GRANT ∷ TRANSFER ∷ OPEN ∷ []) (s .op) ≡ true → s .amount ≤ MAX-AMOUNT-MICRO
   amount-high t = leb-true (s .amount) MAX-AMOUNT-MICRO (and-snd (leb 1 (s .amount)) _ (amount-right t))
+
+  pub limit-high : oneOf (SWEEP ∷ []) (s .op) ≡ true → s .amount ≤ MAX-SWEEP-ROWS
+  unfolding refusals entryRefusals envelopeRefusals operationRefusals
+  limit-high t =
+      let h = or-none-fst _ _ (or-none-snd (on s (GRANT ∷ TRANSFER ∷ OPEN ∷ []) (not (between 1 MAX-AMOUNT-MICRO (s .amount)))) _ (passed L r z 12)) in
+      leb-true (s .amount) MAX-SWEEP-ROWS (and-snd (leb 1 (s .amount)) _ (not-false-true _ (for-op s (SWEEP ∷ []) (not (between 1 MAX-SWEEP-ROWS (s .amount))) t h)))
 
   -- 13, 17
   pub sender-row : oneOf paying (s .op) ≡ true → walletRow L (s .signer) < walletCount L

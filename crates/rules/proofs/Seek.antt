@@ -1,6 +1,6 @@
 -- Laws of the search for the first number of which something holds.
-use mathlib.Core.Path.{_≡_, refl, sym, ap, _∙_}
-use mathlib.Core.Bool.{Bool, true, false}
+use mathlib.Core.Path.{_≡_, refl, sym, ap, ap₂, _∙_}
+use mathlib.Core.Bool.{Bool, true, false, cond}
 use Prim.Native.Nat.{ℕ, zero, suc, _≤_, _<_}
 use native.Mathlib.Nat.{not-suc-le-zero}
 use native.Mathlib.Omega.{arith}
@@ -25,6 +25,13 @@ seek-hit (suc n) p h = go (p zero) refl (seek-hit n (λ i. p (suc i)))
     go false e ih =
         let h′ : suc (seek n (λ i. p (suc i))) < suc n = rw (e, seek) at h in
         rw (e, seek) (ih (omega arith))
+
+-- by tests that agree below n, the same is found
+pub seek-ext : (n : ℕ) (p q : ℕ → Bool) → ((i : ℕ) → i < n → p i ≡ q i) → seek n p ≡ seek n q
+unfolding seek
+seek-ext zero p q e = refl
+seek-ext (suc n) p q e =
+    ap₂ (λ (b : Bool) (k : ℕ). cond b zero (suc k)) (e zero (omega arith)) (seek-ext n (λ i. p (suc i)) (λ i. q (suc i)) (λ i h. e (suc i) (omega arith)))
 
 -- what is found below n is found there below any larger number, and by any test that agrees
 pub seek-more : (n m : ℕ) (p q : ℕ → Bool) → n ≤ m → ((i : ℕ) → i < n → p i ≡ q i) → seek n p < n → seek m q ≡ seek n p
