@@ -40,12 +40,6 @@ pub mod SoundParts
 pub mod SoundAlways
 pub mod Ready
 pub mod Books
-pub mod Heard
-pub mod Replays
-pub mod Results
-pub mod Runs
-pub mod Recorded
-pub mod Sole
 -- recordings: header and written rows alone decide
 pub mod SameTables
 pub mod SameReads
@@ -56,3 +50,10 @@ pub mod SameSettle
 pub mod Words
 pub mod Entries
 pub mod Recordings
+-- from the code to the demands: one call, and runs of calls
+pub mod Heard
+pub mod Replays
+pub mod Results
+pub mod Runs
+pub mod Recorded
+pub mod Sole

@@ -17,13 +17,14 @@ use Rattle.rules.specs.Replay.{Gone, gone, told, replay, recordedFrom, l
 use Rattle.rules.specs.History.{Call, starts-afresh, submits, reads, writes, asks-status, finds-wallet, finds-escrow, finds-receipt, Event, begun, unbroken, after, said}
 use Rattle.rules.specs.Promises.{started}
 use Rattle.rules.specs.Same.{Same-written}
-use Rattle.rules.specs.Agreement.{Finds, records, Own-recordings-agree}
+use Rattle.rules.specs.Agreement.{Finds, records}
 use Rattle.rules.specs.Results.{Result, by-fresh, by-submit, by-replay, by-read, by-write, by-status, by-wallet, by-escrow-place, by-escrow-row, by-receipt-place, by-receipt-row, Meets}
 use Rattle.rules.specs.Runs.{LentOf, leftBy, heardIn, heardOf, recordedOf, Surface, Run, lastOf, heardBy, recordedBy, Runs-recordings-agree}
 use Rattle.rules.specs.declared.Verdict.{Verdict}
 use Rattle.rules.proofs.Bools.{and-fst, not-true-false}
 use Rattle.rules.proofs.Replay.{unbroken-parts}
 use Rattle.rules.proofs.Heard.{opening, some-heard, Begins, begins}
+use Rattle.rules.proofs.Recordings.{own-recordings-agree}
 use Rattle.rules.proofs.Results.{listed}
 use Rattle.rules.proofs.Runs.{callsOf, Did-as, did-as, run-edition, lent-of}
 
@@ -119,8 +120,8 @@ module _ (S : Surface) where
           subst (λ (l : List Entry). As-recorded L (l ++ recordedBy S ds) last) (sym (x .recorded))
           (subst (λ (K : Ledger). As-recorded K (recordedBy S ds) last) (x .left) a)
 
-  runs-recordings-agree : Own-recordings-agree → Runs-recordings-agree S
-  runs-recordings-agree own L start run m begin u whole all again lent left v shown same = (
+  pub runs-recordings-agree : Runs-recordings-agree S
+  runs-recordings-agree L start run m begin u whole all again lent left v shown same = (
     ap (λ (g : Gone Verdict). g .found) met ∙ found .found ∙ ap (λ (n : ℕ). verdict 0 ALL-AGREE n (answer 0 0) (answer 0 0)) (as-many es),
     subst (λ (K : Ledger). Same-written left K) (sym (run-is .left))
         (subst (λ (K : Ledger). Same-written K (ledgerAfter submit (started L) (records es))) (sym (ap (λ (g : Gone Verdict). g .left) met)) (found .left)),
@@ -152,7 +153,7 @@ module _ (S : Surface) where
 
       found : Finds (verdict 0 ALL-AGREE (length (records es)) (answer 0 0) (answer 0 0)) (ledgerAfter submit (started L) (records es)) (replay submit lent (recordingOf (recordedFrom submit (started L) (records es))))
       found =
-          own L lent (records es)
+          own-recordings-agree L lent (records es)
           (record {
             lent = lent-of S L edition-is (begins-so .number);
             escrow = ap (λ (e : Edition). e .escrow) edition-is ∙ whole;

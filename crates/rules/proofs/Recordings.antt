@@ -13,7 +13,7 @@ use borrow.Author.Tests.{eq-eqb, ne-eqb}
 use Rattle.rules.specs.Limits.{WALLET-LEN, ESCROW-LEN, RECEIPT-LEN, JOURNAL-LEN, ENTRY-BYTES, ALL-AGREE, CUT-SHORT, DISAGREES}
 use Rattle.rules.specs.Ledger.{Ledger, Outcome, lengthsRight, freshHeader, fresh}
 use Rattle.rules.specs.Submit.{submit}
-use Rattle.rules.specs.Recording.{Entry, entryOf, entriesFrom, wholeEntries, entriesOf, cutShort, recordingOf}
+use Rattle.rules.specs.Recording.{Entry, asEntry, entriesFrom, wholeEntries, entriesOf, cutShort, recordingOf}
 use Rattle.rules.specs.Replay.{Gone, through, answer, agrees, compared, ended, replayOn, replay, verdict, recordedFrom, ledgerAfter}
 use Rattle.rules.specs.Promises.{Same-lengths, started}
 use Rattle.rules.specs.Same.{Same-rows, Same-written, Same-outcome}
@@ -51,7 +51,7 @@ unfolding through compared
 replay-past cut [] es n K L whole a P f = let e : n ≡ n + 0 = omega arith in rw e (f L a)
 replay-past cut (b ∷ bs) es n K L whole a P f =
     let o : Same-outcome (submit L b) (submit K b) = same-answers L K whole a b in
-    rw (agreed (entryOf b (submit K b .number) (submit K b .word)) (submit L b) (sym (o .number)) (sym (o .word)))
+    rw (agreed (asEntry b (submit K b .number) (submit K b .word)) (submit L b) (sym (o .number)) (sym (o .word)))
     (replay-past cut bs es (n + 1) (submit K b .left) (submit L b .left) (whole-stays K b whole) (o .left) P
     (λ M x. let e : n + 1 + length bs ≡ n + suc (length bs) = omega arith in rw e (f M x)))
 
