@@ -1,7 +1,7 @@
 -- What is heard of a list of calls, taken apart at one of its events: the calls before it, the call itself, and the calls behind it. So what the
 -- definitions promise of calls is promised of what is heard: the books begin where a start afresh is heard first, and a retry that is heard is
 -- a refusal.
-use mathlib.Core.Path.{_≡_, refl, sym, ap, ap₂, _∙_, subst}
+use mathlib.Core.Path.{_≡_, refl, sym, ap, _∙_, subst}
 use mathlib.Core.Logic.{_≢_}
 use mathlib.Core.List.{List, [], _∷_, _++_, append-assoc}
 use mathlib.Core.Bool.{true}

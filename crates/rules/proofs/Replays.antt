@@ -14,7 +14,7 @@ use Rattle.rules.specs.Ledger.{Ledger, Outcome, outcome, setHeader, leng
 use Rattle.rules.specs.Submit.{submit}
 use Rattle.rules.specs.Recording.{Entry, entriesOf, cutShort}
 use Rattle.rules.specs.Replay.{Next, on, stop, Gone, gone, further, through, answer, agrees, compared, ended, replayOn, replay, verdictOf}
-use Rattle.rules.specs.History.{Call, starts-afresh, submits, Event, Said, submitted, begun, after, said}
+use Rattle.rules.specs.History.{Call, starts-afresh, submits, Event, submitted, begun, after, said}
 use Rattle.rules.specs.Promises.{started}
 use Rattle.rules.specs.Runs.{saidTo, heardIn}
 use Rattle.rules.specs.declared.Answer.{Answer}

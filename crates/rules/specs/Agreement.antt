@@ -7,7 +7,7 @@ use lib.ListN.{length}
 use Rattle.rules.specs.Limits.{ESCROW-LEN, MAX-ESCROWS, RECORD-BYTES, ENTRY-BYTES, ALL-AGREE, CUT-SHORT, DISAGREES}
 use Rattle.rules.specs.Ledger.{Ledger}
 use Rattle.rules.specs.Submit.{submit}
-use Rattle.rules.specs.Recording.{Entry, asEntry, entriesOf, cutShort, recordingOf}
+use Rattle.rules.specs.Recording.{Entry, entriesOf, cutShort, recordingOf}
 use Rattle.rules.specs.Replay.{Gone, answer, verdict, verdictOf, replay, recordedFrom, ledgerAfter}
 use Rattle.rules.specs.Promises.{Lent, Same-lengths, started}
 use Rattle.rules.specs.Same.{Same-written, Same-outcome}
