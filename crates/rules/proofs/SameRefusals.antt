@@ -3,13 +3,13 @@
 use mathlib.Core.Path.{_≡_, ap}
 use mathlib.Core.Bool.{Bool, not, _&&_, _||_}
 use Prim.Native.Nat.{ℕ, _+_, _-_, _≤_, _<_}
-use lib.Dec.{eqb, ltb, leb, lit<}
+use lib.Dec.{eqb, ltb, lit<}
 use borrow.Author.Tests.{ltb-true}
 use Rattle.rules.specs.Limits.{WALLET-LEN, RECEIPT-LEN}
-use Rattle.rules.specs.Limits.{BALANCE, FROZEN, TX-CAP, DAILY-CAP, FROM, TO, ESCROW-DEADLINE, ESCROW-STATE, IS-OPEN, REQUESTER, RECEIPT-STATE, PENDING}
+use Rattle.rules.specs.Limits.{BALANCE, FROZEN, TX-CAP, DAILY-CAP, FROM, TO, ESCROW-DEADLINE, ESCROW-STATE, REQUESTER, RECEIPT-STATE, PENDING}
 use Rattle.rules.specs.Limits.{SIGNER, NONCE, OPERATION, ENTRY-AMOUNT, SETTLED-AT, ADMIN}
-use Rattle.rules.specs.Ledger.{Ledger, receipt, receiptCount, walletOf, written}
-use Rattle.rules.specs.Refusals.{clear, seenIn, seen, countedOf, counted, sender, ofReceipt}
+use Rattle.rules.specs.Ledger.{Ledger, receipt, escrowCount, receiptCount, walletOf, written}
+use Rattle.rules.specs.Refusals.{clear, seenIn, seen, countedOf, counted, sender, ofEscrow, ofReceipt, releasable}
 use Rattle.rules.specs.Refusals.{entryRefusals, envelopeRefusals, operationRefusals, refusals}
 use Rattle.rules.specs.Submit.{answerOf}
 use Rattle.rules.specs.Same.{Same-written}
@@ -18,7 +18,7 @@ use Rattle.rules.specs.declared.Read.{Read}
 use Rattle.rules.proofs.Counts.{sum-ext, some-ext}
 use Rattle.rules.proofs.Passed.{written-row}
 use Rattle.rules.proofs.Lengths.{lengths-right}
-use Rattle.rules.proofs.SameReads.{guarded, lengths-of, of-escrow-same, receipt-same, entry-same, has-same, of-same}
+use Rattle.rules.proofs.SameReads.{guarded, lengths-of, escrow-same, of-escrow-same, receipt-same, entry-same, has-same, of-same}
 use Rattle.rules.proofs.SameSound.{sound-same}
 
 module _ (K L : Ledger) (a : Same-written K L) (wide : 8 ≤ L .edition .escrow) where
@@ -35,10 +35,15 @@ module _ (K L : Ledger) (a : Same-written K L) (wide : 8 ≤ L .edition .escrow)
       (sum-ext _ _ _
       (λ i h. let w = entry-same K L a i h in rw (w SIGNER (lit< tt), w OPERATION (lit< tt), w SETTLED-AT (lit< tt), w ENTRY-AMOUNT (lit< tt))))
 
-  -- ---- conditions on a row that is there: the signer's wallet, and a receipt
+  -- ---- conditions on a row that is there: the signer's wallet, an escrow, and a receipt
 
   sender-same : (s : Submission) (f : ℕ → Bool) (k : ℕ) → k < WALLET-LEN → sender K s (f (walletOf K (s .signer) k)) ≡ sender L s (f (walletOf L (s .signer) k))
   sender-same s f k k< = guarded _ _ _ _ (has-same K L a (s .signer)) (λ h. ap f (of-same K L a (s .signer) k (ltb-true _ _ h) k<))
+
+  stale-same : (now n : ℕ) → ofEscrow K n (not (releasable K now (n - 1))) ≡ ofEscrow L n (not (releasable L now (n - 1)))
+  stale-same now n =
+      guarded (written (escrowCount K) n) (written (escrowCount L) n) _ _ (rw (a .header))
+      (λ there. let w = escrow-same K L a wide (n - 1) (written-row (escrowCount L) n there) in rw (w ESCROW-STATE (lit< tt), w ESCROW-DEADLINE (lit< tt)))
 
   of-receipt-same : (n : ℕ) (f : ℕ → Bool) (k : ℕ) → k < RECEIPT-LEN → ofReceipt K n (f (receipt K (n - 1) k)) ≡ ofReceipt L n (f (receipt L (n - 1) k))
   of-receipt-same n f k k< =
@@ -58,7 +63,6 @@ module _ (K L : Ledger) (a : Same-written K L) (wide : 8 ≤ L .edition .escrow)
   operation-rows : (s : Submission) → operationRefusals K s ≡ operationRefusals L s
   unfolding operationRefusals
   operation-rows s =
-      let stale : ℕ → ℕ → Bool = λ x y. not (eqb x IS-OPEN && leb (s .now) y) in
       rw (
         counted-same (s .signer) (s .now),
         sender-same s (λ x. eqb x 1) FROZEN (lit< tt),
@@ -66,8 +70,8 @@ module _ (K L : Ledger) (a : Same-written K L) (wide : 8 ≤ L .edition .escrow)
         sender-same s (λ x. ltb x (s .amount)) TX-CAP (lit< tt),
         sender-same s (λ x. ltb x (s .amount + counted L (s .signer) (s .now))) DAILY-CAP (lit< tt),
         of-escrow-same K L a wide (s .target) (λ x y. not (eqb (s .signer) x) && clear s ADMIN) FROM FROM (lit< tt) (lit< tt),
-        of-escrow-same K L a wide (s .target) stale ESCROW-STATE ESCROW-DEADLINE (lit< tt) (lit< tt),
-        of-escrow-same K L a wide (s .link) stale ESCROW-STATE ESCROW-DEADLINE (lit< tt) (lit< tt),
+        stale-same (s .now) (s .target),
+        stale-same (s .now) (s .link),
         of-escrow-same K L a wide (s .link) (λ x y. not (eqb x (s .target)) || not (eqb y (s .signer))) FROM TO (lit< tt) (lit< tt),
         of-escrow-same K L a wide (s .link) (λ x y. ltb x (s .until)) ESCROW-DEADLINE ESCROW-DEADLINE (lit< tt) (lit< tt),
         of-receipt-same (s .target) (λ x. not (eqb (s .signer) x)) REQUESTER (lit< tt),

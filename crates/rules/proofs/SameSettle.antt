@@ -9,13 +9,13 @@ use lib.ListN.{getD}
 use lib.Dec.{eqb, ltb, lit<, lit≤}
 use borrow.Author.Tests.{eqb-false}
 use Rattle.rules.specs.Limits.{ESCROW-LEN, LAST-TIME-MS, SYSTEM-FROZEN, CLOCK, GRANTED, ESCROWS, RECEIPTS, BALANCE, LOCKED, FROZEN, TX-CAP, DAILY-CAP}
-use Rattle.rules.specs.Limits.{ESCROW-DEADLINE, ESCROW-STATE, RELEASED, REFUNDED, EXPIRED}
-use Rattle.rules.specs.Limits.{RECEIPT-LINK, ACCEPTANCE-DEADLINE, AUTO-ACCEPT, RECEIPT-STATE, RELEASE-CODE, RELEASE-IMPOSSIBLE, ACCEPTED, DISPUTED, LAPSED}
+use Rattle.rules.specs.Limits.{ESCROW-DEADLINE, ESCROW-STATE, RELEASED, REFUNDED}
+use Rattle.rules.specs.Limits.{RECEIPT-LINK, ACCEPTANCE-DEADLINE, AUTO-ACCEPT, RECEIPT-STATE, RELEASE-CODE, RELEASE-IMPOSSIBLE, ACCEPTED, DISPUTED}
 use Rattle.rules.specs.Limits.{ACCEPT, DISPUTE, SWEEP}
 use Rattle.rules.specs.Ledger.{Ledger, Outcome, outcome, receipt, escrowCount, receiptCount, hasWallet, putHead, putWallet, newWallet}
 use Rattle.rules.specs.Record.{readOf}
 use Rattle.rules.specs.Refusals.{releasable, oneOf, closing}
-use Rattle.rules.specs.Settle.{Done, done, Sweep, oneMore, sweepStart, sweptReceipts, swept, dueReceipt, dueEscrow, raise, lower, ensureWallet, endEscrow}
+use Rattle.rules.specs.Settle.{Done, done, Sweep, sweepStart, sweptReceipts, swept, dueReceipt, dueEscrow, raise, lower, ensureWallet, endEscrow}
 use Rattle.rules.specs.Settle.{closeReceipt, acceptRow, closeDueReceipt, closeDueEscrow, sweepReceipt, sweepEscrow, escrowOf, receiptOf, entryOf}
 use Rattle.rules.specs.Settle.{grant, transfer, openEscrow, release, refund, claim, accept, dispute, sweep, freeze, caps, operations, idle, operate, enter, settle}
 use Rattle.rules.specs.Submit.{answerOf, submit}
@@ -64,13 +64,12 @@ record In-step (L : Ledger) (s z : Sweep) : Type 0 where
   tables : Same-written (s .tables) (z .tables)
   kept : Kept L (z .tables)
 
--- one turn: both rows are due or neither, and closed alike
-turn : (L : Ledger) (s z : Sweep) (b c : Bool) (K M : Ledger) → In-step L s z → b ≡ c → Same-written K M
-    → Kept L (cond (ltb 0 (z .room) && c) (oneMore z M) z .tables) → In-step L (cond (ltb 0 (s .room) && b) (oneMore s K) s) (cond (ltb 0 (z .room) && c) (oneMore z M) z)
-turn L s z b c K M a e m =
-    cond-rel (λ (x y : Sweep). Kept L (y .tables) → In-step L x y) (ltb 0 (s .room) && b) (ltb 0 (z .room) && c) _ s _ z
-    (ap₂ _&&_ (ap (ltb 0) (a .room)) e)
-    (λ h k. record { room = rw (a .room); closed = rw (a .closed); tables = m; kept = k }) (λ h k. a)
+-- one turn: both rows are due or neither
+turn : (L : Ledger) (s z x y : Sweep) (b c : Bool) → In-step L s z → b ≡ c → (Kept L (y .tables) → In-step L x y)
+    → Kept L (cond (ltb 0 (z .room) && c) y z .tables) → In-step L (cond (ltb 0 (s .room) && b) x s) (cond (ltb 0 (z .room) && c) y z)
+turn L s z x y b c a e f =
+    cond-rel (λ (p q : Sweep). Kept L (q .tables) → In-step L p q) (ltb 0 (s .room) && b) (ltb 0 (z .room) && c) x s y z
+    (ap₂ _&&_ (ap (ltb 0) (a .room)) e) (λ h. f) (λ h k. a)
 
 module _ (L : Ledger) (now : ℕ) (now-right : now ≤ LAST-TIME-MS) where
   step-receipt : (i : ℕ) → i < receiptCount L → (s z : Sweep) → In-step L s z → In-step L (sweepReceipt now i s) (sweepReceipt now i z)
@@ -78,10 +77,15 @@ module _ (L : Ledger) (now : ℕ) (now-right : now ≤ LAST-TIME-MS) where
   step-receipt i i< s z a =
       let j< : i < receiptCount (z .tables) = row-kept RECEIPTS (a .kept) i< in
       let w = receipt-same (s .tables) (z .tables) (a .tables) i j< in
-      turn L s z (dueReceipt (s .tables) now i) (dueReceipt (z .tables) now i) _ _ a (rw (w RECEIPT-STATE (lit< tt), w ACCEPTANCE-DEADLINE (lit< tt)))
-      (cond-rel Same-written (eqb (receipt (s .tables) i AUTO-ACCEPT) 1) (eqb (receipt (z .tables) i AUTO-ACCEPT) 1) _ _ _ _ (rw (w AUTO-ACCEPT (lit< tt)))
-      (λ e. same-accept (s .tables) (z .tables) (a .tables) (a .kept .good) now 0 i now-right j< .after)
-      (λ e. same-close (s .tables) (z .tables) (a .tables) LAPSED now 0 i))
+      turn L s z _ _ (dueReceipt (s .tables) now i) (dueReceipt (z .tables) now i) a (rw (w RECEIPT-STATE (lit< tt), w ACCEPTANCE-DEADLINE (lit< tt)))
+      (λ k. record {
+        room = rw (a .room);
+        closed = rw (a .closed);
+        tables = cond-rel Same-written (eqb (receipt (s .tables) i AUTO-ACCEPT) 1) (eqb (receipt (z .tables) i AUTO-ACCEPT) 1) _ _ _ _ (rw (w AUTO-ACCEPT (lit< tt)))
+            (λ e. same-accept (s .tables) (z .tables) (a .tables) (a .kept .good) now _ i now-right j< .after)
+            (λ e. same-close (s .tables) (z .tables) (a .tables) _ now _ i);
+        kept = k;
+      })
       (receipt-turn L now now-right i i< z (a .kept))
 
   step-escrow : (i : ℕ) → i < escrowCount L → (s z : Sweep) → In-step L s z → In-step L (sweepEscrow now i s) (sweepEscrow now i z)
@@ -89,8 +93,13 @@ module _ (L : Ledger) (now : ℕ) (now-right : now ≤ LAST-TIME-MS) where
   step-escrow i i< s z a =
       let j< : i < escrowCount (z .tables) = row-kept ESCROWS (a .kept) i< in
       let w = escrow-same (s .tables) (z .tables) (a .tables) (a .kept .good .wide) i j< in
-      turn L s z (dueEscrow (s .tables) now i) (dueEscrow (z .tables) now i) _ _ a (rw (w ESCROW-STATE (lit< tt), w ESCROW-DEADLINE (lit< tt)))
-      (same-end (s .tables) (z .tables) (a .tables) (a .kept .good .wide) EXPIRED now 0 i j<)
+      turn L s z _ _ (dueEscrow (s .tables) now i) (dueEscrow (z .tables) now i) a (rw (w ESCROW-STATE (lit< tt), w ESCROW-DEADLINE (lit< tt)))
+      (λ k. record {
+        room = rw (a .room);
+        closed = rw (a .closed);
+        tables = same-end (s .tables) (z .tables) (a .tables) (a .kept .good .wide) _ now _ i j<;
+        kept = k;
+      })
       (escrow-turn L now now-right i i< z (a .kept))
 
   same-swept : (K : Ledger) → Same-written K L → Good L → (limit : ℕ) → In-step L (swept now limit K) (swept now limit L)
