@@ -9,13 +9,14 @@ use Prim.Native.Nat.{ℕ, zero, suc, _+_, _≤_}
 use native.Mathlib.Omega.{arith}
 use lib.Dec.{eqb}
 use borrow.Author.Tests.{eqb-true}
-use Rattle.rules.specs.Limits.{DISAGREES}
+use Rattle.rules.specs.Limits.{NOT-REPLAYED, DISAGREES}
 use Rattle.rules.specs.Ledger.{Ledger, Outcome, outcome, setHeader, lengthsRight, freshHeader, fresh}
 use Rattle.rules.specs.Submit.{submit}
 use Rattle.rules.specs.Recording.{Entry, entriesOf, cutShort}
-use Rattle.rules.specs.Replay.{Next, on, stop, Gone, gone, further, through, answer, agrees, compared, ended, replayOn, replay, verdictOf}
+use Rattle.rules.specs.Replay.{Next, on, stop, Gone, gone, further, through, answer, agrees, compared, ended, replayOn, replay, verdict, verdictOf, told}
 use Rattle.rules.specs.History.{Call, starts-afresh, submits, Event, submitted, begun, after, said}
 use Rattle.rules.specs.Promises.{started}
+use Rattle.rules.specs.Agreement.{Replay-answers}
 use Rattle.rules.specs.Runs.{saidTo, heardIn}
 use Rattle.rules.specs.declared.Answer.{Answer}
 use Rattle.rules.specs.declared.Found.{Found}
@@ -138,3 +139,13 @@ replays L r = go (fresh-answers L)
           left = sym (ap (λ (o : Outcome). o .left) (x .1));
           heard = ap (λ (n : ℕ). begun n ∷ []) (sym (ap (λ (o : Outcome). o .number) (x .1)));
         })
+
+pub replay-answers : Replay-answers
+unfolding replay replayOn
+replay-answers L r = go (fresh-answers L)
+  where
+    go : ((lengthsRight L ≡ true) × (fresh L ≡ outcome 0 0 (setHeader (freshHeader (L .edition)) L))) ⊎ ((lengthsRight L ≡ false) × (fresh L ≡ outcome 1 0 L))
+        → ((lengthsRight L ≡ true) × (verdictOf (replay submit L r .found) .number ≡ 0))
+        ⊎ ((lengthsRight L ≡ false) × (told (replay submit L r) ≡ gone (verdict 1 NOT-REPLAYED 0 (answer 0 0) (answer 0 0)) L))
+    go (inl x) = inl (x .0, rw (x .0) (as-calls (cutShort r) 0 (started L) (entriesOf r) .number))
+    go (inr x) = inr (x .0, rw (x .0) refl)

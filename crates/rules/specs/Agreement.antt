@@ -2,13 +2,14 @@
 use mathlib.Core.Path.{_≡_}
 use mathlib.Core.Logic.{_≢_, _⊎_}
 use mathlib.Core.List.{List, [], _∷_, _++_}
+use mathlib.Core.Bool.{true, false}
 use Prim.Native.Nat.{ℕ, _+_, _≤_, _<_, _^_}
 use lib.ListN.{length}
-use Rattle.rules.specs.Limits.{ESCROW-LEN, MAX-ESCROWS, RECORD-BYTES, ENTRY-BYTES, ALL-AGREE, CUT-SHORT, DISAGREES}
-use Rattle.rules.specs.Ledger.{Ledger}
+use Rattle.rules.specs.Limits.{ESCROW-LEN, MAX-ESCROWS, RECORD-BYTES, ENTRY-BYTES, NOT-REPLAYED, ALL-AGREE, CUT-SHORT, DISAGREES}
+use Rattle.rules.specs.Ledger.{Ledger, lengthsRight}
 use Rattle.rules.specs.Submit.{submit}
 use Rattle.rules.specs.Recording.{Entry, entriesOf, cutShort, recordingOf}
-use Rattle.rules.specs.Replay.{Gone, answer, verdict, verdictOf, replay, recordedFrom, ledgerAfter}
+use Rattle.rules.specs.Replay.{Gone, gone, answer, verdict, verdictOf, told, replay, recordedFrom, ledgerAfter}
 use Rattle.rules.specs.Promises.{Lent, Same-lengths, started}
 use Rattle.rules.specs.Same.{Same-written, Same-outcome}
 use Rattle.rules.specs.declared.Found.{Found}
@@ -45,6 +46,13 @@ abbrev pub Recorded-read : Type 0
 Recorded-read =
     (es : List Entry) → AllWhole es → (rest : List ℕ) →
     (entriesOf (recordingOf es ++ rest) ≡ es ++ entriesOf rest) × (cutShort (recordingOf es ++ rest) ≡ cutShort rest)
+
+-- "TABLES OF A WRONG LENGTH ARE ANSWER 1", nothing is replayed and nothing changed; on all others the answer is 0
+abbrev pub Replay-answers : Type 0
+Replay-answers =
+    (L : Ledger) (r : List ℕ) →
+    ((lengthsRight L ≡ true) × (verdictOf (replay submit L r .found) .number ≡ 0))
+    ⊎ ((lengthsRight L ≡ false) × (told (replay submit L r) ≡ gone (verdict 1 NOT-REPLAYED 0 (answer 0 0) (answer 0 0)) L))
 
 -- what a replay found, in numbers, and a ledger of the same header and written rows as the one left
 pub record Finds (v : Verdict) (K : Ledger) (g : Gone Found) : Type 0 where
