@@ -52,9 +52,9 @@ impl Replay {
 impl fmt::Display for Replay {
     fn fmt(&self, f: &mut fmt::Formatter<'_>) -> fmt::Result {
         match self {
-            Replay::AllAgree { entries } => write!(f, "all agree: {}", Counted(*entries)),
+            Replay::AllAgree { entries } => write!(f, "all agree: {}", Counted(*entries, "")),
             Replay::CutShort { agreed } => {
-                write!(f, "cut short at the end: {} agree", Counted(*agreed))
+                write!(f, "cut short after {}", Counted(*agreed, "agreeing "))
             }
             Replay::Disagrees {
                 entry,
@@ -69,14 +69,14 @@ impl fmt::Display for Replay {
     }
 }
 
-/// A number of entries, in words.
-struct Counted(u64);
+/// A number of entries, in words, with a word before them.
+struct Counted(u64, &'static str);
 
 impl fmt::Display for Counted {
     fn fmt(&self, f: &mut fmt::Formatter<'_>) -> fmt::Result {
-        match self.0 {
-            1 => f.write_str("1 entry"),
-            entries => write!(f, "{entries} entries"),
+        match self {
+            Counted(1, which) => write!(f, "1 {which}entry"),
+            Counted(number, which) => write!(f, "{number} {which}entries"),
         }
     }
 }
@@ -119,7 +119,9 @@ impl<T: AsRef<[u64]> + AsMut<[u64]>> Ledger<T> {
     /// );
     ///
     /// // cut amid its last entry
-    /// assert_eq!(other.replay(&bytes[..200])?, Replay::CutShort { agreed: 1 });
+    /// let found = other.replay(&bytes[..200])?;
+    /// assert_eq!(found, Replay::CutShort { agreed: 1 });
+    /// assert_eq!(found.to_string(), "cut short after 1 agreeing entry");
     /// # Ok::<(), Box<dyn std::error::Error>>(())
     /// ```
     pub fn replay(&mut self, recording: &[u8]) -> Result<Replay, Refusal> {

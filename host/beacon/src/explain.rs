@@ -39,7 +39,7 @@ pub fn explain(path: &str, output: &mut Vec<u8>) -> Result<ExitCode, Problem> {
 }
 
 /// A well-formed record in words.
-fn sentence(s: &Submission) -> String {
+pub fn sentence(s: &Submission) -> String {
     let target = s.target;
     let amount = credits(s.amount);
     let what = match s.operation() {

@@ -15,6 +15,14 @@ pub fn credits(amount: u64) -> String {
     grouped
 }
 
+/// A number of entries.
+pub fn entries(number: u64) -> String {
+    match number {
+        1 => "1 entry".to_owned(),
+        _ => format!("{number} entries"),
+    }
+}
+
 /// A moment in milliseconds since 1970, and its date beside it.
 pub fn moment(ms: u64) -> String {
     let (days, of_day) = (ms / DAY_MS, ms % DAY_MS);
