@@ -28,11 +28,10 @@ pub fn run(
     let log = Log::new(recording)?;
     let mut recorder = Recorder::start(ledger, &log).map_err(refused)?;
     let mut text = String::new();
-    let mut records = bytes.chunks_exact(RECORD_BYTES);
+    let records = bytes.chunks_exact(RECORD_BYTES);
     let short = records.remainder();
     let mut ordinal = 0;
-    let mut problem = None;
-    for record in &mut records {
+    for record in records {
         let record: &Record = record.try_into().expect("a record's length");
         match recorder.submit(record) {
             Ok(answer) => {
@@ -40,19 +39,16 @@ pub fn run(
                 text += &line(ordinal, record, answer);
             }
             Err(unrecorded) => {
-                problem = Some(Problem::Input(format!(
-                    "{unrecorded}; only the answers above are recorded"
+                log.sync()?;
+                output.extend_from_slice(text.as_bytes());
+                return Err(Problem::Input(format!(
+                    "{unrecorded}; only the answers printed are recorded"
                 )));
-                break;
             }
         }
     }
     let (mut ledger, _) = recorder.into_parts();
     log.sync()?;
-    if let Some(problem) = problem {
-        output.extend_from_slice(text.as_bytes());
-        return Err(problem);
-    }
     if !short.is_empty() {
         text += &line(ordinal + 1, short, ledger.submit(short));
     }

@@ -8,7 +8,7 @@ use std::process::Stdio;
 
 use milebeacon::{Entries, Recorded, Submission, ENTRY_BYTES, RECORD_BYTES};
 
-use tool::{beacon, fails, file, first_records, output, succeeds, text};
+use tool::{beacon, beacon_in_little_room, fails, file, first_records, output, succeeds, text};
 
 /// P1 to P3, settled and recorded.
 fn first_recording(name: &str) -> String {
@@ -172,6 +172,26 @@ fn nothing_is_made_for_a_command_that_comes_to_nothing() {
     let words = ["run", &records, "--record", &recording, "--wallets", "1025"];
     assert_eq!(fails(&words, 2, "1 to 1024"), b"");
     assert!(fs::metadata(&recording).is_err(), "no file was made");
+}
+
+#[test]
+fn what_cannot_be_recorded_is_not_answered() {
+    let sweep = Submission::sweep(1, 1).to_record().expect("well formed");
+    let records = written("many.bin", &sweep.repeat(100));
+    let recording = file("many.rec");
+    let mut run = beacon_in_little_room(&["run", &records, "--record", &recording]);
+    let ran = run.output().expect("the tool runs");
+    assert_eq!(ran.status.code(), Some(1));
+    let said = text(&ran.stderr);
+    assert!(said.starts_with("beacon: the recording could not be written: "));
+    assert!(said.ends_with("; only the answers printed are recorded\n"));
+
+    let bytes = fs::read(&recording).expect("what was settled before");
+    let entries = Entries::new(&bytes);
+    assert!((1..100).contains(&entries.len()), "{} bytes", bytes.len());
+    assert_eq!(text(&ran.stdout).lines().count(), entries.len());
+    let status = if entries.cut().is_empty() { 0 } else { 4 };
+    finds(&["replay", &recording], status);
 }
 
 #[test]

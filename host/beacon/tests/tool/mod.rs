@@ -3,23 +3,33 @@
 // no test uses all of it
 #![allow(dead_code)]
 
+use std::ffi::OsString;
 use std::fs;
 use std::path::PathBuf;
 use std::process::{Command, Output, Stdio};
 
 /// The tool, under the emulator where there is one.
 pub fn beacon(words: &[&str]) -> Command {
-    let tool = env!("CARGO_BIN_EXE_beacon");
-    let mut command = match std::env::var_os("MILEBEACON_RUNNER") {
-        Some(runner) => {
-            let mut command = Command::new(runner);
-            command.arg(tool);
-            command
-        }
-        None => Command::new(tool),
-    };
-    command.args(words).stdin(Stdio::null());
+    let mut line = tool_line();
+    let mut command = Command::new(line.remove(0));
+    command.args(line).args(words).stdin(Stdio::null());
     command
+}
+
+/// The same with files that it writes held to a small size.
+pub fn beacon_in_little_room(words: &[&str]) -> Command {
+    let mut command = Command::new("sh");
+    // a write beyond the limit is to be an error, and not the end of the program
+    command.args(["-c", "trap '' XFSZ; ulimit -f 1; exec \"$@\"", "sh"]);
+    command.args(tool_line()).args(words).stdin(Stdio::null());
+    command
+}
+
+/// The words before its arguments.
+fn tool_line() -> Vec<OsString> {
+    let tool = env!("CARGO_BIN_EXE_beacon").into();
+    let runner = std::env::var_os("MILEBEACON_RUNNER");
+    runner.into_iter().chain([tool]).collect()
 }
 
 pub fn output(words: &[&str]) -> Output {
