@@ -145,6 +145,12 @@ impl Answer {
         }
     }
 
+    /// What the core answers.
+    pub(crate) fn from_core(answer: ffi::Answer) -> Answer {
+        Answer::from_parts(answer.number, answer.word)
+            .expect("the core answers 0 to 40, and a refusal with word 0: it is proved to")
+    }
+
     /// Its number in the rules: 0 if settled.
     pub fn number(self) -> u64 {
         match self {

@@ -31,9 +31,34 @@ pub struct Read {
     pub submission: Submission,
 }
 
-// Two bytes, six of padding, and thirteen words, as the archive has them.
+/// What `milebeacon_replay` finds.
+#[repr(C)]
+#[derive(Clone, Copy, Debug, PartialEq, Eq)]
+pub struct Verdict {
+    /// 0, or 1 for tables of a wrong length.
+    pub number: u64,
+    /// [`ALL_AGREE`], [`CUT_SHORT`] or [`DISAGREES`]; 0 if nothing was replayed, as the number is 1.
+    pub finding: u64,
+    /// How many entries were replayed: of a disagreement the entry's own number, counted from 1.
+    pub replayed: u64,
+    /// What the recording says of the entry that disagrees, the number being a byte of it; else
+    /// zeros.
+    pub recorded: Answer,
+    /// What the core answers to it; else zeros.
+    pub answered: Answer,
+}
+
+/// Every entry has the answer and the word that the core gives.
+pub const ALL_AGREE: u64 = 1;
+/// The same of every whole entry; one is cut short at the end, and was not replayed.
+pub const CUT_SHORT: u64 = 2;
+/// The last entry replayed has another answer or word than the core gives.
+pub const DISAGREES: u64 = 3;
+
+// Two bytes, six of padding, and thirteen words, as the archive has them; seven words of a verdict.
 const _: () = assert!(std::mem::size_of::<Submission>() == 112);
 const _: () = assert!(std::mem::size_of::<Read>() == 120);
+const _: () = assert!(std::mem::size_of::<Verdict>() == 56);
 
 extern "C" {
     fn milebeacon_submit(
@@ -62,6 +87,20 @@ extern "C" {
         journal: *mut u64,
         journal_len: usize,
     ) -> u64;
+    fn milebeacon_replay(
+        header: *mut u64,
+        header_len: usize,
+        wallets: *mut u64,
+        wallets_len: usize,
+        escrows: *mut u64,
+        escrows_len: usize,
+        receipts: *mut u64,
+        receipts_len: usize,
+        journal: *mut u64,
+        journal_len: usize,
+        recording: *const u8,
+        recording_len: usize,
+    ) -> Verdict;
     fn milebeacon_read(record: *const u8, record_len: usize) -> Read;
     fn milebeacon_write(submission: Submission, out: *mut u8, out_len: usize) -> u64;
     fn milebeacon_status(number: u64) -> u64;
@@ -126,6 +165,29 @@ pub fn fresh(lent: Tables<&mut [u64]>) -> u64 {
             lent.receipts.len(),
             lent.journal.as_mut_ptr(),
             lent.journal.len(),
+        )
+    }
+}
+
+/// Starts the lent tables afresh, submits the whole entries of the recording one after the other and
+/// stops at the first whose answer or word is another than the recorded one.
+pub fn replay(lent: Tables<&mut [u64]>, recording: &[u8]) -> Verdict {
+    // SAFETY: as for `submit`, with the recording, which is only read, in the record's place. Every
+    // value of the returned struct is a number.
+    unsafe {
+        milebeacon_replay(
+            lent.header.as_mut_ptr(),
+            lent.header.len(),
+            lent.wallets.as_mut_ptr(),
+            lent.wallets.len(),
+            lent.escrows.as_mut_ptr(),
+            lent.escrows.len(),
+            lent.receipts.as_mut_ptr(),
+            lent.receipts.len(),
+            lent.journal.as_mut_ptr(),
+            lent.journal.len(),
+            recording.as_ptr(),
+            recording.len(),
         )
     }
 }

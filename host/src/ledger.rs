@@ -81,6 +81,11 @@ impl<T> Ledger<T> {
 }
 
 impl<T: AsRef<[u64]> + AsMut<[u64]>> Ledger<T> {
+    /// The tables, to be lent to the core.
+    pub(crate) fn lend(&mut self) -> Tables<&mut [u64]> {
+        self.tables.as_mut()
+    }
+
     /// Starts the ledger afresh: nothing written, clock and granted total 0. Only the header
     /// changes.
     ///
@@ -88,7 +93,7 @@ impl<T: AsRef<[u64]> + AsMut<[u64]>> Ledger<T> {
     ///
     /// [`Refusal::BadTable`] if a table has a wrong length. Then nothing has changed.
     pub fn start_afresh(&mut self) -> Result<(), Refusal> {
-        match ffi::fresh(self.tables.as_mut()) {
+        match ffi::fresh(self.lend()) {
             0 => Ok(()),
             _ => Err(Refusal::BadTable),
         }
@@ -98,9 +103,7 @@ impl<T: AsRef<[u64]> + AsMut<[u64]>> Ledger<T> {
     ///
     /// Any bytes may be submitted; those that are no record are refused.
     pub fn submit(&mut self, record: &[u8]) -> Answer {
-        let answer = ffi::submit(self.tables.as_mut(), record);
-        Answer::from_parts(answer.number, answer.word)
-            .expect("the core answers 0 to 40, and a refusal with word 0: it is proved to")
+        Answer::from_core(ffi::submit(self.lend(), record))
     }
 
     /// Writes the submission's record and submits it.

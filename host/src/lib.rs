@@ -27,11 +27,15 @@
 //! assert_eq!(ledger.wallet(8).unwrap().balance(), 20_000_000);
 //! # Ok::<(), milebeacon::Refusal>(())
 //! ```
+//!
+//! A host keeps a [`Recording`] of what it submitted and was answered: a [`Recorder`] writes it while
+//! the ledger settles, and [`Ledger::replay`] says whether the core gives the same answers again.
 
 #![deny(unsafe_code)]
 #![warn(missing_docs)]
 
 mod answer;
+mod entry;
 mod envelope;
 pub mod ffi;
 mod ledger;
@@ -39,16 +43,23 @@ pub mod lookup;
 mod numbers;
 mod operation;
 mod record;
+mod recorder;
+mod recording;
+mod replay;
 mod rows;
 mod submission;
 mod tables;
 
 pub use answer::{status, Answer, Refusal};
+pub use entry::{Entries, Entry, Recorded, ENTRY_BYTES};
 pub use envelope::Envelope;
 pub use ledger::Ledger;
 pub use numbers::{EscrowNumber, ReceiptNumber, WalletNumber};
 pub use operation::Operation;
 pub use record::{Record, RECORD_BYTES};
+pub use recorder::{Recorder, Unrecorded};
+pub use recording::{CutShort, Recording};
+pub use replay::Replay;
 pub use rows::{EscrowRow, EscrowState, JournalRow, ReceiptRow, ReceiptState, WalletRow};
 pub use submission::{Claim, Freezable, Submission};
 pub use tables::{Sizes, Tables, HEADER_WORDS};

@@ -7,7 +7,7 @@ use clap::{Arg, ArgAction, ArgMatches, Command};
 use milebeacon::Operation;
 
 use crate::problem::Problem;
-use crate::{explain, record, run};
+use crate::{explain, record, replay, run, sizes};
 
 /// Does what the words ask for. What is to be printed goes to `output`.
 pub fn dispatch(
@@ -26,9 +26,15 @@ pub fn dispatch(
     match matches.subcommand() {
         Some(("record", matches)) => record::write(matches, output),
         Some(("explain", matches)) => explain::explain(file(matches), output),
-        Some(("run", matches)) => run::run(file(matches), output),
+        Some(("run", matches)) => {
+            let recording = matches.get_one::<String>("record").map(String::as_str);
+            run::run(file(matches), sizes::asked_for(matches), recording, output)
+        }
+        Some(("replay", matches)) => {
+            replay::replay(file(matches), sizes::asked_for(matches), output)
+        }
         _ => Err(Problem::Usage(
-            "say record, explain or run; --help tells more".to_owned(),
+            "say record, explain, run or replay; --help tells more".to_owned(),
         )),
     }
 }
@@ -47,7 +53,7 @@ fn command() -> Command {
     };
     Command::new("beacon")
         .version("0.1.0")
-        .about("Writes, explains and settles submission records")
+        .about("Writes, explains and settles submission records, and replays recordings")
         .disable_help_subcommand(true)
         .subcommand(record_command())
         .subcommand(
@@ -55,16 +61,42 @@ fn command() -> Command {
                 .about("Prints records in words, and the answers to them")
                 .arg(file()),
         )
-        .subcommand(
+        .subcommand(sizes::options(
             Command::new("run")
                 .about("Settles a file of records on a fresh ledger")
                 .long_about(
-                    "Settles a file of records on a fresh ledger of 64 wallets, 128 escrows, 128 \
-                     receipts and 512 journal rows. Prints the answer to each record, then the \
-                     wallets, escrows and receipts.",
+                    "Settles a file of records on a fresh ledger. Prints the answer to each \
+                     record, then the wallets, escrows and receipts.",
                 )
-                .arg(file()),
+                .arg(file())
+                .arg(Arg::new("record").long("record").value_name("RECORDING").help(
+                    "Write a recording, for `beacon replay`, to RECORDING, which must be a new file",
+                )),
+        ))
+        .subcommand(replay_command())
+}
+
+fn replay_command() -> Command {
+    let command = Command::new("replay")
+        .about("Replays a recording on a fresh ledger and compares the answers")
+        .long_about(
+            "Replays a recording on a fresh ledger and compares each answer and answer word. Stops \
+             at the first entry that disagrees and prints it with both answers. The sizes of the \
+             tables must be those that the recording was made with.",
         )
+        .after_help(format!(
+            "Exit status:\n  0  all entries agree\n  1  the recording cannot be read\n  2  the \
+             command makes no sense\n  {}  an entry disagrees\n  {}  the whole entries agree, and \
+             the last is cut short",
+            replay::DISAGREES,
+            replay::CUT_SHORT
+        ))
+        .arg(
+            Arg::new("FILE")
+                .required(true)
+                .help("A recording, entries of 117 bytes; - is standard input"),
+        );
+    sizes::options(command)
 }
 
 fn record_command() -> Command {
@@ -102,7 +134,7 @@ fn flag(name: &'static str, help: &'static str) -> Arg {
 }
 
 /// A number, with `_` or `,` between its digits if that is easier to read.
-fn parse_number(text: &str) -> Result<u64, String> {
+pub fn parse_number(text: &str) -> Result<u64, String> {
     let digits: String = text.chars().filter(|c| !matches!(c, '_' | ',')).collect();
     match digits.parse() {
         Ok(number) if digits.bytes().all(|byte| byte.is_ascii_digit()) => Ok(number),

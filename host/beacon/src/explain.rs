@@ -7,7 +7,7 @@ use milebeacon::{Ledger, Operation, Sizes, Submission, RECORD_BYTES};
 
 use crate::files;
 use crate::problem::Problem;
-use crate::show::credits;
+use crate::show::{credits, moment};
 
 /// Prints each record of the file, and the answer that it gets when the file is settled on a fresh
 /// ledger. Records that are malformed, and a short last piece, are a problem.
@@ -39,7 +39,7 @@ pub fn explain(path: &str, output: &mut Vec<u8>) -> Result<ExitCode, Problem> {
 }
 
 /// A well-formed record in words.
-fn sentence(s: &Submission) -> String {
+pub fn sentence(s: &Submission) -> String {
     let target = s.target;
     let amount = credits(s.amount);
     let what = match s.operation() {
@@ -48,7 +48,7 @@ fn sentence(s: &Submission) -> String {
         Some(Operation::Open) => {
             format!(
                 "open an escrow of {amount} for wallet {target} until {}",
-                s.until
+                moment(s.until)
             )
         }
         Some(Operation::Release) => format!("release escrow {target}"),
@@ -59,7 +59,9 @@ fn sentence(s: &Submission) -> String {
             format!("dispute receipt {target}, with a reason")
         }
         Some(Operation::Dispute) => format!("dispute receipt {target}, with no reason"),
-        Some(Operation::Sweep) => return format!("at {}, sweep at most {} rows", s.now, s.amount),
+        Some(Operation::Sweep) => {
+            return format!("at {}, sweep at most {} rows", moment(s.now), s.amount)
+        }
         Some(Operation::Freeze) => {
             let verb = if s.has(Submission::FREEZE) {
                 "freeze"
@@ -90,7 +92,11 @@ fn sentence(s: &Submission) -> String {
     };
     format!(
         "at {}, {role}{} asks (nonce {}, issued {}, expires {}{signed}) to {what}",
-        s.now, s.signer, s.nonce, s.issued, s.expires
+        moment(s.now),
+        s.signer,
+        s.nonce,
+        moment(s.issued),
+        moment(s.expires)
     )
 }
 
@@ -111,6 +117,7 @@ fn claim(s: &Submission) -> String {
     };
     format!(
         "claim work {hash} for wallet {}{escrow}, acceptance until {}{auto}",
-        s.target, s.until
+        s.target,
+        moment(s.until)
     )
 }

@@ -1,4 +1,4 @@
-//! Reading files of records, and adding to them.
+//! Reading files of records and recordings, and adding to them.
 
 use std::fs::{self, OpenOptions};
 use std::io::{self, Read, Write};

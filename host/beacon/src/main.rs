@@ -1,17 +1,22 @@
-//! `beacon`: writes, explains and settles submission records.
+//! `beacon`: writes, explains and settles submission records, and replays recordings of them.
 //!
 //! Bad input gets one line on standard error and a status that is not 0: 2 for a command that makes
-//! no sense, 1 for everything else.
+//! no sense, 1 for everything else. A replay that does not agree is a finding, with a status of its
+//! own.
 
 #![forbid(unsafe_code)]
 
 mod command;
 mod explain;
 mod files;
+mod log;
 mod problem;
 mod record;
+mod replay;
 mod run;
 mod show;
+mod sizes;
+mod waiting;
 
 use std::env;
 use std::io::{self, Write};

@@ -1,42 +1,82 @@
-//! `beacon run FILE`: settles a file of records and shows what it leaves.
+//! `beacon run FILE`: settles a file of records and shows what it leaves, and records it if asked.
 
 use std::fmt::Write as _;
 use std::process::ExitCode;
 
-use milebeacon::{Ledger, Operation, Sizes, RECORD_BYTES};
+use milebeacon::{Answer, Ledger, Operation, Record, Recorder, Refusal, Sizes, RECORD_BYTES};
 
 use crate::files;
+use crate::log::Log;
 use crate::problem::Problem;
-use crate::show::{credits, table};
+use crate::show::{credits, entries, table};
 
 /// Settles the records on a fresh ledger, prints each answer and then the tables. Refusals are
 /// answers and no problem; a short last piece is one, and is answered as the rules say.
-pub fn run(path: &str, output: &mut Vec<u8>) -> Result<ExitCode, Problem> {
+///
+/// With a recording, each entry is in its file before the next record is settled, and all are on the
+/// disk before an answer is printed. A short last piece cannot be an entry, and is not recorded.
+pub fn run(
+    path: &str,
+    sizes: Sizes,
+    recording: Option<&str>,
+    output: &mut Vec<u8>,
+) -> Result<ExitCode, Problem> {
     let bytes = files::read(path)?;
-    let mut ledger =
-        Ledger::new(Sizes::PROGRAM).map_err(|refusal| Problem::Input(refusal.to_string()))?;
+    let refused = |refusal: Refusal| Problem::Input(refusal.to_string());
+    let ledger = Ledger::new(sizes).map_err(refused)?;
+    // last, so that nothing is made for a command that comes to nothing
+    let log = Log::new(recording)?;
+    let mut recorder = Recorder::start(ledger, &log).map_err(refused)?;
     let mut text = String::new();
-    for (ordinal, piece) in (1..).zip(bytes.chunks(RECORD_BYTES)) {
-        let answer = ledger.submit(piece);
-        let operation = piece.get(2).and_then(|&byte| Operation::from_number(byte));
-        let _ = writeln!(
-            text,
-            "{ordinal}: {}: {} {}, word {}, status {}",
-            operation.map_or("no operation", Operation::name),
-            answer.number(),
-            answer.name(),
-            answer.word(),
-            answer.status()
-        );
+    let records = bytes.chunks_exact(RECORD_BYTES);
+    let short = records.remainder();
+    let mut ordinal = 0;
+    for record in records {
+        let record: &Record = record.try_into().expect("a record's length");
+        match recorder.submit(record) {
+            Ok(answer) => {
+                ordinal += 1;
+                text += &line(ordinal, record, answer);
+            }
+            Err(unrecorded) => {
+                log.sync()?;
+                output.extend_from_slice(text.as_bytes());
+                return Err(Problem::Input(format!(
+                    "{unrecorded}; only the answers printed are recorded"
+                )));
+            }
+        }
+    }
+    let (mut ledger, _) = recorder.into_parts();
+    log.sync()?;
+    if !short.is_empty() {
+        text += &line(ordinal + 1, short, ledger.submit(short));
     }
     text += &tables(&ledger);
+    if let Some(path) = recording {
+        let _ = writeln!(text, "recorded {} in {path}", entries(ordinal));
+    }
     output.extend_from_slice(text.as_bytes());
-    match bytes.len() % RECORD_BYTES {
+    let unrecorded = recording.map_or("", |_| ", and not recorded");
+    match short.len() {
         0 => Ok(ExitCode::SUCCESS),
         short => Err(Problem::Input(format!(
-            "{path} ends with a short piece of {short} bytes, answered as malformed"
+            "{path} ends with a short piece of {short} bytes, answered as malformed{unrecorded}"
         ))),
     }
+}
+
+/// A record's answer, on a line.
+fn line(ordinal: u64, piece: &[u8], answer: Answer) -> String {
+    let operation = piece.get(2).and_then(|&byte| Operation::from_number(byte));
+    format!(
+        "{ordinal}: {}: {} {}, word {}, status {}\n",
+        operation.map_or("no operation", Operation::name),
+        answer.number(),
+        answer.name(),
+        answer.word(),
+        answer.status()
+    )
 }
 
 /// The wallets, escrows and receipts, and the totals.

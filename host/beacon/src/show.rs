@@ -1,4 +1,6 @@
-//! Numbers and tables for people.
+//! Numbers, moments and tables for people.
+
+const DAY_MS: u64 = 86_400_000;
 
 /// An amount of micro-credits, in groups of three digits.
 pub fn credits(amount: u64) -> String {
@@ -11,6 +13,32 @@ pub fn credits(amount: u64) -> String {
         grouped.push(digit);
     }
     grouped
+}
+
+/// A number of entries.
+pub fn entries(number: u64) -> String {
+    match number {
+        1 => "1 entry".to_owned(),
+        _ => format!("{number} entries"),
+    }
+}
+
+/// A moment in milliseconds since 1970, and its date beside it.
+pub fn moment(ms: u64) -> String {
+    let (days, of_day) = (ms / DAY_MS, ms % DAY_MS);
+    // days since the 1st of March 0 are 400 years at a time, each year ending with its leap day
+    let (era, day) = ((days + 719_468) / 146_097, (days + 719_468) % 146_097);
+    let year = (day - day / 1_460 + day / 36_524 - day / 146_096) / 365;
+    let day = day - (365 * year + year / 4 - year / 100);
+    let month = (5 * day + 2) / 153;
+    let day = day - (153 * month + 2) / 5 + 1;
+    let month = if month < 10 { month + 3 } else { month - 9 };
+    let year = 400 * era + year + u64::from(month <= 2);
+    let (seconds, ms_left) = (of_day / 1_000, of_day % 1_000);
+    let (hour, minute, second) = (seconds / 3_600, seconds / 60 % 60, seconds % 60);
+    format!(
+        "{ms} [{year:04}-{month:02}-{day:02} {hour:02}:{minute:02}:{second:02}.{ms_left:03} UTC]"
+    )
 }
 
 /// A table: a title, the columns' names, and rows. Columns are as wide as they need to be, and
@@ -44,7 +72,7 @@ pub fn table(title: &str, names: &[&str], rows: &[Vec<String>]) -> String {
 
 #[cfg(test)]
 mod tests {
-    use super::{credits, table};
+    use super::{credits, moment, table};
 
     #[test]
     fn digits_are_grouped() {
@@ -58,6 +86,23 @@ mod tests {
             "18,446,744,073,709,551,615",
         ];
         assert_eq!(shown, expected);
+    }
+
+    #[test]
+    fn moments_have_their_dates() {
+        let dates = [
+            (0, "1970-01-01 00:00:00.000"),
+            (951_782_399_999, "2000-02-28 23:59:59.999"),
+            (951_782_400_000, "2000-02-29 00:00:00.000"),
+            (951_868_800_000, "2000-03-01 00:00:00.000"),
+            (1_700_000_000_123, "2023-11-14 22:13:20.123"),
+            (1_735_689_599_999, "2024-12-31 23:59:59.999"),
+            (4_107_542_400_000, "2100-03-01 00:00:00.000"),
+            ((1 << 48) - 1, "10889-08-02 05:31:50.655"),
+        ];
+        for (ms, date) in dates {
+            assert_eq!(moment(ms), format!("{ms} [{date} UTC]"));
+        }
     }
 
     #[test]

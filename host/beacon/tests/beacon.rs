@@ -1,76 +1,14 @@
 //! The tool as a person uses it: words in, files and lines out.
 
+mod tool;
+
 use std::fs;
 use std::io::Write;
-use std::path::PathBuf;
-use std::process::{Command, Output, Stdio};
+use std::process::Stdio;
 
 use milebeacon::{Claim, Envelope, EscrowNumber, Submission, RECORD_BYTES};
 
-/// The tool, under the emulator where there is one.
-fn beacon(words: &[&str]) -> Command {
-    let tool = env!("CARGO_BIN_EXE_beacon");
-    let mut command = match std::env::var_os("MILEBEACON_RUNNER") {
-        Some(runner) => {
-            let mut command = Command::new(runner);
-            command.arg(tool);
-            command
-        }
-        None => Command::new(tool),
-    };
-    command.args(words).stdin(Stdio::null());
-    command
-}
-
-fn output(words: &[&str]) -> Output {
-    beacon(words).output().expect("the tool runs")
-}
-
-fn text(bytes: &[u8]) -> &str {
-    std::str::from_utf8(bytes).expect("text")
-}
-
-/// Standard output of a command that succeeds and has nothing to complain about.
-fn succeeds(words: &[&str]) -> Vec<u8> {
-    let output = output(words);
-    assert_eq!(text(&output.stderr), "", "{words:?}");
-    assert!(output.status.success(), "{words:?}");
-    output.stdout
-}
-
-/// Standard output of a command that fails, after one line on standard error that says this.
-fn fails(words: &[&str], status: i32, said: &str) -> Vec<u8> {
-    let output = output(words);
-    let complaint = text(&output.stderr);
-    assert_eq!(output.status.code(), Some(status), "{words:?}: {complaint}");
-    assert!(
-        complaint.starts_with("beacon: ") && complaint.contains(said),
-        "{complaint}"
-    );
-    assert_eq!(complaint.matches('\n').count(), 1, "{complaint}");
-    output.stdout
-}
-
-/// A file of the test's own, which is not there yet.
-fn file(name: &str) -> String {
-    let path = PathBuf::from(env!("CARGO_TARGET_TMPDIR")).join(name);
-    let _ = fs::remove_file(&path);
-    path.to_str().expect("a readable path").to_owned()
-}
-
-/// P1 to P3: grant, open, and the same open again.
-fn first_records(name: &str) -> String {
-    let path = file(name);
-    let words = "record grant --admin --signer 1 --target 7 --amount 50_000_000 --now 1000 --out";
-    let words: Vec<&str> = words.split(' ').chain([path.as_str()]).collect();
-    assert_eq!(succeeds(&words), b"");
-    for _ in 0..2 {
-        let words = "record open --signer 7 --target 8 --amount 20,000,000 --now 1000 --until 2000";
-        let words: Vec<&str> = words.split(' ').chain(["--out", path.as_str()]).collect();
-        assert_eq!(succeeds(&words), b"");
-    }
-    path
-}
+use tool::{beacon, fails, file, first_records, succeeds, text};
 
 #[test]
 fn records_are_those_of_the_crate() {
@@ -161,7 +99,19 @@ fn records_are_explained_with_their_answers() {
 3: at 1000, 7 asks (nonce 1, issued 1000, expires 61000) to open an escrow of 20,000,000 for wallet 8 until 2000
    nonce_seen: a record with this signer and nonce has settled before (status 409)
 ";
-    assert_eq!(text(&shown), expected);
+    // each moment has its date beside it
+    let dates = [
+        ("1000", "00:00:01"),
+        ("2000", "00:00:02"),
+        ("61000", "00:01:01"),
+    ];
+    let mut undated = text(&shown).to_owned();
+    for (ms, time) in dates {
+        let dated = format!(" {ms} [1970-01-01 {time}.000 UTC]");
+        assert!(undated.contains(&dated), "{undated}");
+        undated = undated.replace(&dated, &format!(" {ms}"));
+    }
+    assert_eq!(undated, expected);
 }
 
 #[test]
@@ -214,7 +164,7 @@ fn standard_input_is_a_file_too() {
 fn bad_input_gets_one_line() {
     let open = "record open --signer 7 --target 8 --amount 3";
     let cases = [
-        ("", 2, "say record, explain or run"),
+        ("", 2, "say record, explain, run or replay"),
         ("record", 2, "grant, transfer, open"),
         ("record opn", 2, "Did you mean 'open'"),
         ("record open --signer 7 --target 8", 2, "--amount"),
@@ -258,6 +208,7 @@ fn help_is_no_problem() {
         &["--help"][..],
         &["record", "--help"],
         &["record", "open", "--help"],
+        &["run", "--help"],
     ] {
         assert!(text(&succeeds(words)).contains("Usage: beacon"));
     }

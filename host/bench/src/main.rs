@@ -1,13 +1,15 @@
-//! `bench [--quick] [--plot FILE]`: prints what a call of the core costs, as a table in Markdown,
-//! and draws how the cost grows.
+//! `bench [--quick] [--replay] [--plot FILE]`: prints what a call of the core costs, as a table in
+//! Markdown, and draws how the cost grows; with `--replay` only what a replayed entry costs.
 //!
 //! Everything in one table is measured in one run, in turns, and the least of many times is taken:
-//! the ratios say more than the times.
+//! the ratios say more than the times. A replayed entry's time is a difference of two, so there the
+//! median is taken, and the least and the most are told.
 
 #![forbid(unsafe_code)]
 
 mod measure;
 mod plot;
+mod replay;
 mod report;
 mod sqlite;
 
@@ -30,16 +32,26 @@ fn main() -> ExitCode {
 }
 
 fn work() -> Result<(), String> {
-    let (mut effort, mut plot_path) = (Effort::FULL, None);
+    let (mut effort, mut plot_path, mut replay_only) = (Effort::FULL, None, false);
     let mut words = env::args().skip(1);
     while let Some(word) = words.next() {
         match word.as_str() {
             "--quick" => effort = Effort::QUICK,
+            "--replay" => replay_only = true,
             "--plot" => plot_path = Some(words.next().ok_or("--plot needs a file")?),
-            _ => return Err(format!("{word:?} is neither --quick nor --plot")),
+            _ => return Err(format!("{word:?} is none of --quick, --replay and --plot")),
         }
     }
+    if !replay_only {
+        calls(effort, plot_path)?;
+    }
+    let replayed = replay::at_size(Sizes::LARGEST, effort);
+    print!("{}", report::replays(Sizes::LARGEST, &replayed));
+    Ok(())
+}
 
+/// What one call costs, and how that grows.
+fn calls(effort: Effort, plot_path: Option<String>) -> Result<(), String> {
     let named = [
         ("program", Sizes::PROGRAM),
         ("middle", scaled(4)),

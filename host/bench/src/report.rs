@@ -5,6 +5,7 @@ use std::fmt::Write as _;
 use milebeacon::Sizes;
 
 use crate::measure::Costs;
+use crate::replay::{Replayed, Spread};
 use crate::sqlite::Stores;
 
 fn words(sizes: Sizes) -> usize {
@@ -85,6 +86,31 @@ pub fn ids(rows: &[(&str, Costs)]) -> String {
             costs.core_submit,
             costs.core_submit / costs.read,
         );
+    }
+    text + "\n"
+}
+
+/// What a replayed entry costs beside a submission of the same record.
+pub fn replays(sizes: Sizes, rows: &[Replayed]) -> String {
+    let mut text = format!(
+        "\n| replayed entry, in µs; full tables ({}/{}/{}/{}) | entries | submit | least to most | \
+         replayed entry | least to most | **replayed entry / submit** | least to most |\n\
+         |---|---:|---:|---:|---:|---:|---:|---:|",
+        sizes.wallets, sizes.escrows, sizes.receipts, sizes.journal
+    );
+    for row in rows {
+        let _ = write!(text, "\n| {} | {} |", row.name, row.entries);
+        for (spread, digits) in [(row.submit, 1), (row.replay, 1), (row.ratio, 2)] {
+            let Spread {
+                median,
+                least,
+                most,
+            } = spread;
+            let _ = write!(
+                text,
+                " {median:.digits$} | {least:.digits$} to {most:.digits$} |"
+            );
+        }
     }
     text + "\n"
 }
