@@ -57,7 +57,7 @@ lengths-started L h =
     }) (λ e. lengths-same L)
 
 -- right lengths are a matter of the lengths
-lengths-right : {K L : Ledger} → Same-lengths K L → lengthsRight K ≡ lengthsRight L
+pub lengths-right : {K L : Ledger} → Same-lengths K L → lengthsRight K ≡ lengthsRight L
 unfolding lengthsRight
 lengths-right {K} {L} p =
     λ i. all (eqb (p .header i) (p .edition i .header) ∷ right WALLET-LEN MAX-WALLETS (p .wallets i)

@@ -38,6 +38,7 @@ pub mod GoodRows
 pub mod SoundStays
 pub mod SoundParts
 pub mod SoundAlways
+pub mod Ready
 pub mod Books
 pub mod Results
 pub mod Runs
