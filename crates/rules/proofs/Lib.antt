@@ -39,6 +39,8 @@ pub mod SoundStays
 pub mod SoundParts
 pub mod SoundAlways
 pub mod Ready
+-- a recording, gone through entry by entry
+pub mod Through
 pub mod Books
 pub mod Results
 pub mod Runs
