@@ -9,7 +9,7 @@ use lib.Dec.{eqb}
 use borrow.Author.Tests.{ne-eqb}
 use Rattle.rules.specs.Ledger.{Ledger, outcome, lengthsRight}
 use Rattle.rules.specs.Record.{wellFormed, accepted, readOf, decode, nothing}
-use Rattle.rules.specs.Sound.{sound}
+use Rattle.rules.specs.Sound.{sound, Ready}
 use Rattle.rules.specs.Refusals.{first, refusals, entryRefusals, envelopeRefusals, operationRefusals}
 use Rattle.rules.specs.Settle.{Done, done, settle}
 use Rattle.rules.specs.Submit.{finish, answerOf, submitRead, submit}
@@ -35,10 +35,11 @@ module _ (L : Ledger) (b : List ℕ) where
   unfolding submit submitRead answerOf refusals entryRefusals
   damaged e f = rw (e, f)
 
-  module _ (right : lengthsRight L ≡ true) (whole : sound L ≡ true) (r : Read) (read : r ≡ readOf b) where
+  -- right lengths, and sound: what the record's bytes are read as decides
+  module _ (ready : Ready L) (r : Read) (read : r ≡ readOf b) where
     pub malformed : r .number ≢ 0 → outcome 3 0 L ≡ submit L b
     unfolding submit submitRead answerOf refusals entryRefusals readOf
-    malformed h = rw (right, whole) (go (accepted b) (λ e. h (ap (λ (x : Read). x .number) read ∙ ap (λ (a : Bool). R a .number) e)))
+    malformed h = rw (ready .lengths, ready .sound) (go (accepted b) (λ e. h (ap (λ (x : Read). x .number) read ∙ ap (λ (a : Bool). R a .number) e)))
       where
         R : Bool → Read
         R a = cond a (record { number = 0; submission = decode b }) (record { number = 3; submission = nothing })
@@ -55,7 +56,7 @@ module _ (L : Ledger) (b : List ℕ) where
     module _ (zero-read : r .number ≡ 0) where
       submit-is : submit L b ≡ finish (first (envelopeRefusals L (r .submission) ++ operationRefusals L (r .submission))) (settle (r .submission) L) L
       unfolding submit submitRead answerOf refusals entryRefusals
-      submit-is = rw (← read, right, whole, zero-read)
+      submit-is = rw (← read, ready .lengths, ready .sound, zero-read)
 
       pub checked : (n : ℕ) → n ≡ first (envelopeRefusals L (r .submission) ++ operationRefusals L (r .submission)) → n ≢ 0 → outcome n 0 L ≡ submit L b
       checked n e h =

@@ -3,7 +3,8 @@
 ghost use mathlib.Core.Path.{_≡_};
 ghost use lib.ListN.{length, replicate};
 ghost use Rattle.rules.specs.Ledger.{Sized, outcome, lengthsRight, fresh};
-ghost use Rattle.rules.specs.Moments.{lent};
+ghost use Rattle.rules.specs.Moments.{tables, lent};
+ghost use Rattle.rules.specs.Sound.{Ready};
 ghost use Rattle.rules.specs.Submit.{submit};
 use rules::Answer;
 use rules::Edition;
@@ -78,6 +79,33 @@ fn refused(number: u64) -> Answer
     Answer { number, word: 0 }
 }
 
+// A submission behind its first two tests. Right lengths and a sound ledger are asked of the caller here, and not tested: `submit` has just tested
+// them, and a replay has them for every entry, since a ledger started afresh is sound, and each submission leaves it so.
+pub fn step(
+    edition: Edition,
+    header: &mut [u64],
+    wallets: &mut [u64],
+    escrows: &mut [u64],
+    receipts: &mut [u64],
+    journal: &mut [u64],
+    bytes: &[u8],
+) -> Answer
+    requires { ⌜ Sized edition × Ready (tables edition header wallets escrows receipts journal) ⌝ }
+    ensures { λ x. ⌜ (let L = lent edition header wallets escrows receipts journal in outcome (x .number) (x .word) (L .exit) ≡ submit (L .entry) (now (bytes .entry))) ⌝ }
+{
+    let read = record::read_record(bytes);
+    if read.number != 0 {
+        return refused(MALFORMED_RECORD);
+    }
+    let s = read.submission;
+    let number = refusals::refusal(edition, header, wallets, escrows, receipts, journal, s);
+    if number != 0 {
+        return refused(number);
+    }
+    let word = settling::settle(edition, header, wallets, escrows, receipts, journal, s);
+    Answer { number: 0, word }
+}
+
 // A submission of any bytes over any five tables: the first refusal in the listed order, and nothing changed; or 0 with the answer's word,
 // and the ledger that document 01 lays down.
 pub fn submit(
@@ -98,15 +126,5 @@ pub fn submit(
     if !sound::is_sound(edition, header, wallets, escrows, receipts, journal) {
         return refused(LEDGER_DAMAGED);
     }
-    let read = record::read_record(bytes);
-    if read.number != 0 {
-        return refused(MALFORMED_RECORD);
-    }
-    let s = read.submission;
-    let number = refusals::refusal(edition, header, wallets, escrows, receipts, journal, s);
-    if number != 0 {
-        return refused(number);
-    }
-    let word = settling::settle(edition, header, wallets, escrows, receipts, journal, s);
-    Answer { number: 0, word }
+    step(edition, header, wallets, escrows, receipts, journal, bytes)
 }

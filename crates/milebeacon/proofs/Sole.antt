@@ -6,8 +6,10 @@ use Prim.Native.Nat.{ℕ}
 use denote.Ref.{now}
 use Rattle.rules.specs.Ledger.{Outcome, outcome}
 use Rattle.rules.specs.Record.{Written}
+use Rattle.rules.specs.Replay.{Gone, gone}
 use Rattle.rules.specs.Results.{Sole, Pair, pair}
 use Rattle.rules.specs.declared.Read.{Read}
+use Rattle.rules.specs.declared.Verdict.{Verdict}
 use Rattle.rules.proofs.Sole.{one}
 use Rattle.ledger.proofs.Surface.{five}
 use Rattle.milebeacon.proofs.milebeacon_fresh.Kinds as fresh-kinds
@@ -26,6 +28,8 @@ use Rattle.milebeacon.proofs.milebeacon_escrow_place.Kinds as escrow-pl
 use Rattle.milebeacon.proofs.milebeacon_escrow_place.Reads as escrow-place-reads
 use Rattle.milebeacon.proofs.milebeacon_receipt_place.Kinds as receipt-place-kinds
 use Rattle.milebeacon.proofs.milebeacon_receipt_place.Reads as receipt-place-reads
+use Rattle.milebeacon.proofs.milebeacon_replay.Kinds as replay-kinds
+use Rattle.milebeacon.proofs.milebeacon_replay.Reads as replay-reads
 
 pub sole-fresh : Sole fresh-kinds.ps fresh-kinds.r fresh-reads.Learnt Outcome (λ κs x e. outcome x 0 (five e))
 sole-fresh κs a x y v w p q = one p q
@@ -51,3 +55,6 @@ sole-escrow-place κs a x y v w p q = ap (λ (n : ℕ). (n, pair (now (a .0)) (n
 
 pub sole-receipt-place : Sole receipt-place-kinds.ps receipt-place-kinds.r receipt-place-reads.Learnt (ℕ × Pair) (λ κs x e. (x, pair (now (e .0)) (now (e .1 .0))))
 sole-receipt-place κs a x y v w p q = ap (λ (n : ℕ). (n, pair (now (a .0)) (now (a .1 .0)))) (one p q)
+
+pub sole-replay : Sole replay-kinds.ps replay-kinds.r replay-reads.Learnt (Gone Verdict) (λ κs x e. gone x (five e))
+sole-replay κs a x y v w p q = one p q

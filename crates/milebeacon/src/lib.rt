@@ -5,6 +5,7 @@ ghost use Rattle.rules.specs.Ledger.{first-edition, outcome, fresh};
 ghost use Rattle.rules.specs.Lookup.{escrowPlace, receiptPlace, walletNumber};
 ghost use Rattle.rules.specs.Moments.{lent};
 ghost use Rattle.rules.specs.Record.{Written, readOf, writeOf};
+ghost use Rattle.rules.specs.Replay.{gone, told, replay};
 ghost use Rattle.rules.specs.Status.{statusOf};
 ghost use Rattle.rules.specs.Submit.{submit};
 use rules::Answer;
@@ -12,6 +13,7 @@ use rules::EscrowNumber;
 use rules::Read;
 use rules::ReceiptNumber;
 use rules::Submission;
+use rules::Verdict;
 use rules::WalletNumber;
 
 // A submission over the five lent tables: its answer, and the tables as document 01 lays them down; a refusal changes nothing.
@@ -97,4 +99,20 @@ pub extern "C" fn milebeacon_receipt_place(
     ensures { λ r. ⌜ r ≡ receiptPlace first-edition (now (header .entry)) (now (receipts .entry)) (number .0) ⌝ }
 {
     ledger::lookups::receipt_place(header, receipts, number)
+}
+
+// A replay of a recording on the lent tables, started afresh: what it found, in numbers, and the tables as after the last entry replayed.
+#[no_mangle]
+pub extern "C" fn milebeacon_replay(
+    header: &mut [u64],
+    wallets: &mut [u64],
+    escrows: &mut [u64],
+    receipts: &mut [u64],
+    journal: &mut [u64],
+    recording: &[u8],
+) -> Verdict
+    ensures { λ x. ⌜ (let L = lent first-edition header wallets escrows receipts journal in gone x (L .exit) ≡ told (replay submit (L .entry) (now (recording .entry)))) ⌝ }
+{
+    let found = replay::replay(header, wallets, escrows, receipts, journal, recording);
+    replay::verdict(found)
 }

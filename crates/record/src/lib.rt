@@ -11,7 +11,7 @@ use rules::limits::MARK_0;
 use rules::limits::MARK_1;
 use rules::limits::RECORD_BYTES;
 
-mod bytes;
+pub mod bytes;
 mod form;
 pub mod trips;
 

@@ -40,7 +40,8 @@ pub mod SoundParts
 pub mod SoundAlways
 pub mod Ready
 pub mod Books
--- recordings: header and written rows alone decide
+-- recordings: an entry further; header and written rows alone decide
+pub mod Through
 pub mod SameTables
 pub mod SameReads
 pub mod SameSound
