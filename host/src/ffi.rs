@@ -31,9 +31,33 @@ pub struct Read {
     pub submission: Submission,
 }
 
+/// What `milebeacon_replay` answers.
+#[repr(C)]
+#[derive(Clone, Copy, Debug, PartialEq, Eq)]
+pub struct Verdict {
+    /// 0, or 1 for tables of a wrong length.
+    pub number: u64,
+    /// 0 if nothing was replayed, else [`ALL_AGREE`], [`CUT_SHORT`] or [`DISAGREES`].
+    pub finding: u64,
+    /// How many entries were replayed; of a disagreement the number of its entry, counted from 1.
+    pub replayed: u64,
+    /// What the recording has for the entry that disagrees; zeros if none does.
+    pub recorded: Answer,
+    /// What the rules answer to it; zeros if none disagrees.
+    pub answered: Answer,
+}
+
+/// The finding that all entries agree.
+pub const ALL_AGREE: u64 = 1;
+/// The finding that the last entry is cut short and those before it agree.
+pub const CUT_SHORT: u64 = 2;
+/// The finding that an entry disagrees.
+pub const DISAGREES: u64 = 3;
+
 // Two bytes, six of padding, and thirteen words, as the archive has them.
 const _: () = assert!(std::mem::size_of::<Submission>() == 112);
 const _: () = assert!(std::mem::size_of::<Read>() == 120);
+const _: () = assert!(std::mem::size_of::<Verdict>() == 56);
 
 extern "C" {
     fn milebeacon_submit(
@@ -62,6 +86,20 @@ extern "C" {
         journal: *mut u64,
         journal_len: usize,
     ) -> u64;
+    fn milebeacon_replay(
+        header: *mut u64,
+        header_len: usize,
+        wallets: *mut u64,
+        wallets_len: usize,
+        escrows: *mut u64,
+        escrows_len: usize,
+        receipts: *mut u64,
+        receipts_len: usize,
+        journal: *mut u64,
+        journal_len: usize,
+        recording: *const u8,
+        recording_len: usize,
+    ) -> Verdict;
     fn milebeacon_read(record: *const u8, record_len: usize) -> Read;
     fn milebeacon_write(submission: Submission, out: *mut u8, out_len: usize) -> u64;
     fn milebeacon_status(number: u64) -> u64;
@@ -126,6 +164,28 @@ pub fn fresh(lent: Tables<&mut [u64]>) -> u64 {
             lent.receipts.len(),
             lent.journal.as_mut_ptr(),
             lent.journal.len(),
+        )
+    }
+}
+
+/// Replays the recording on the lent tables, which it starts afresh.
+pub fn replay(lent: Tables<&mut [u64]>, recording: &[u8]) -> Verdict {
+    // SAFETY: as for `submit`, with the recording in the record's place. Every value of the returned
+    // struct is a number.
+    unsafe {
+        milebeacon_replay(
+            lent.header.as_mut_ptr(),
+            lent.header.len(),
+            lent.wallets.as_mut_ptr(),
+            lent.wallets.len(),
+            lent.escrows.as_mut_ptr(),
+            lent.escrows.len(),
+            lent.receipts.as_mut_ptr(),
+            lent.receipts.len(),
+            lent.journal.as_mut_ptr(),
+            lent.journal.len(),
+            recording.as_ptr(),
+            recording.len(),
         )
     }
 }
