@@ -15,7 +15,7 @@ use crate::tally::LAST_ANSWER;
 use crate::twin::TABLE_NAMES;
 
 /// What a run must come to, each at least once, and how it is told.
-const WANTED: [&str; 24] = [
+const WANTED: [&str; 25] = [
     "all agree",
     "all agree, nothing recorded",
     "all agree, refusals only",
@@ -35,6 +35,7 @@ const WANTED: [&str; 24] = [
     "replayed on the program's sizes",
     "replayed on the largest tables",
     "replayed what the second program recorded",
+    "replayed more entries than a byte can count",
     "wrong length: header",
     "wrong length: wallets",
     "wrong length: escrows",
@@ -148,6 +149,7 @@ fn reached(replay: &Replay, found: &Verdict) -> Vec<String> {
         (sizes == Sizes::PROGRAM, "on the program's sizes"),
         (sizes == Sizes::LARGEST, "on the largest tables"),
         (replay.by == By::Second, "what the second program recorded"),
+        (found.replayed > 255, "more entries than a byte can count"),
     ];
     let also = also.into_iter().filter(|(holds, _)| *holds);
     let replayed = replayed

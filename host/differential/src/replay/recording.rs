@@ -85,11 +85,14 @@ pub fn recorded(history: &History, by: By) -> Result<Vec<Entry>, Difference> {
     Ok(entries)
 }
 
-/// Those of the records that a fresh ledger of these sizes refuses: one after another they leave it
+/// More entries than a byte can count.
+const MANY: usize = 300;
+
+/// Those of the records that a fresh ledger of these sizes refuses, over and over: they leave it
 /// fresh.
 fn refused(entries: &[Entry], sizes: Sizes) -> Result<Vec<Entry>, Difference> {
     let mut world = Tables::zeros(sizes);
-    let mut refusals = Vec::new();
+    let mut refusals: Vec<Entry> = Vec::new();
     for entry in entries {
         By::Core.fresh(&mut world)?;
         let answer = By::Core.submit(&mut world, &entry.record)?;
@@ -97,7 +100,7 @@ fn refused(entries: &[Entry], sizes: Sizes) -> Result<Vec<Entry>, Difference> {
             refusals.push(Entry::new(entry.record, answer)?);
         }
     }
-    Ok(refusals)
+    Ok(refusals.into_iter().cycle().take(MANY).collect())
 }
 
 /// How a recording is changed before it is replayed.
@@ -119,7 +122,7 @@ pub enum Change {
     Cut(usize),
     /// There are no entries.
     Empty,
-    /// There are refusals only.
+    /// There are refusals only, the same over and over, more than a byte can count.
     Refusals,
 }
 

@@ -53,7 +53,7 @@ pub fn round(
 /// The replay of a history's first steps; most are begun afresh.
 fn of(history: &History, dice: &mut Dice) -> Replay {
     let mut history = history.clone();
-    history.steps.truncate(dice.pick(&[5, 15, 45, 120]));
+    history.steps.truncate(dice.pick(&[5, 15, 45, 400]));
     if history.sizes == Sizes::LARGEST || !dice.once_in(4) {
         history.begin = Begin::Fresh;
     }
@@ -98,7 +98,9 @@ fn planned(round: u64, dice: &mut Dice) -> Vec<(Change, On)> {
     }));
     planned.extend((0..OTHER_LENGTHS).map(|k| {
         let (table, length) = another_length(round * OTHER_LENGTHS + k);
-        (Change::Nothing, On::Length(table, length))
+        // a wrong length comes before all that a recording can hold
+        let change = dice.pick(&[Change::Nothing, Change::Word, Change::Empty, Change::Cut(1)]);
+        (change, On::Length(table, length))
     }));
     planned
 }

@@ -10,6 +10,9 @@ use crate::shrink::{shrink_by as shrink_history, told};
 use crate::tally::Tally;
 use crate::twin::Difference;
 
+/// How many entries are told.
+const TOLD: usize = 40;
+
 /// A difference in a small replay.
 #[derive(Clone, Debug)]
 pub struct Small {
@@ -144,11 +147,16 @@ impl Small {
             .entries()
             .and_then(|entries| self.replay.recording(&entries));
         let bytes = recording.map_or_else(|_| Vec::new(), |recording| recording.bytes);
-        for (entry, piece) in (1..).zip(bytes.chunks(ENTRY_BYTES)) {
+        let pieces = bytes.chunks(ENTRY_BYTES);
+        let untold = pieces.len().saturating_sub(TOLD);
+        for (entry, piece) in (1..).zip(pieces).take(TOLD) {
             story += &match piece.get(108..ENTRY_BYTES) {
                 Some(answer) => format!("entry {entry}: answer and word {answer:02X?}\n"),
                 None => format!("entry {entry}: cut to {} bytes\n", piece.len()),
             };
+        }
+        if untold > 0 {
+            story += &format!("and {untold} more\n");
         }
         story + &format!("{}\n", self.difference)
     }
