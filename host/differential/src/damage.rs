@@ -5,7 +5,7 @@ use crate::step::{LAST_TIME, MOST_GRANTED};
 use crate::twin::World;
 
 /// The most rows of each table.
-const MOST_ROWS: [usize; 5] = [1, 1_024, 4_096, 4_096, 8_192];
+pub(crate) const MOST_ROWS: [usize; 5] = [1, 1_024, 4_096, 4_096, 8_192];
 
 /// Gives one table another length, which may be right all the same.
 pub fn lengthen(world: &mut World, dice: &mut Dice) {

@@ -9,6 +9,8 @@
 //! breaks them in one clause at a time and [`damage`] anywhere.
 //! - [`twin`] does the calls and compares; a [`history`] is a start and steps. [`shrink`] makes a
 //! difference that it found small.
+//! - [`replay`] records what a history submits and how it is answered, changes the recording, and
+//! replays it on other tables.
 //! - [`plan`] puts these together into a run of a given length from a given seed, of one [`mix`] or
 //! the other.
 
@@ -25,6 +27,7 @@ pub mod lookups;
 pub mod mix;
 pub mod plan;
 pub mod record;
+pub mod replay;
 pub mod shrink;
 pub mod start;
 pub mod step;

@@ -37,7 +37,8 @@ fn main() -> ExitCode {
             for goal in &goals {
                 println!("{goal}");
             }
-            let reached = tally.missing().is_empty() && goals.iter().all(Goal::is_reached);
+            let all = tally.missing().is_empty() && tally.replays.missing().is_empty();
+            let reached = all && goals.iter().all(Goal::is_reached);
             ExitCode::from(u8::from(!reached || !forbidden.is_empty()))
         }
         Err(failure) => {

@@ -11,6 +11,7 @@ use crate::dice::Dice;
 use crate::history::History;
 use crate::lookups;
 use crate::mix::Mix;
+use crate::replay::rounds;
 use crate::shrink::shrink;
 use crate::start::{small_sizes, sound, Filled};
 use crate::step::Step;
@@ -64,12 +65,13 @@ pub fn run(plan: Plan, report: &mut dyn FnMut(&Tally)) -> Result<Tally, Failure>
     Ok(tally)
 }
 
-/// Everything once: histories, lent ledgers, broken ones, wrong lengths, codec and statuses.
+/// Everything once: histories, lent ledgers, broken ones, wrong lengths, codec, statuses, replays.
 fn one_round(plan: Plan, round: u64, tally: &mut Tally) -> Result<(), Failure> {
     let seed = plan.seed.wrapping_mul(0x1_0000_0001).wrapping_add(round);
     let dice = &mut Dice::new(seed);
-    for history in plan.mix.histories(round, dice) {
-        play(&history, tally)?;
+    let histories = plan.mix.histories(round, dice);
+    for history in &histories {
+        play(history, tally)?;
     }
     let (broken, kept) = (Outcome::Damaged, Outcome::Sound);
     if round % 64 == 2 {
@@ -95,7 +97,8 @@ fn one_round(plan: Plan, round: u64, tally: &mut Tally) -> Result<(), Failure> {
         anything(dice, tally, lengthen).map_err(|d| Failure(format!("another length: {d}")))?;
         codec::round(dice, tally).map_err(|d| Failure(format!("codec: {d}")))?;
     }
-    codec::statuses(dice, tally).map_err(|d| Failure(d.to_string()))
+    codec::statuses(dice, tally).map_err(|d| Failure(d.to_string()))?;
+    rounds::round(&histories, round, dice.word(), tally).map_err(Failure)
 }
 
 fn play(history: &History, tally: &mut Tally) -> Result<(), Failure> {

@@ -130,30 +130,31 @@ fn plainer_start(small: &mut Small, test: Test<'_>) {
     adopt(small, candidate, test);
 }
 
+/// A history in words: the steps and what they submit.
+pub(crate) fn told(history: &History) -> String {
+    let History {
+        begin,
+        sizes,
+        seed,
+        steps,
+    } = history;
+    let mut story = format!("begin: {begin:?}, {sizes:?}, seed {seed}\n");
+    for (place, (step, record)) in steps.iter().zip(history.records()).enumerate() {
+        let (number, fields) = second::read(&record);
+        let shown = if number == 0 {
+            format!("{fields:?}")
+        } else {
+            format!("{record:02X?}")
+        };
+        story += &format!("step {}: {step:?}\n    {shown}\n", place + 1);
+    }
+    story
+}
+
 impl Small {
-    /// The history in words: the steps and what they submit.
+    /// The history in words, and the difference.
     pub fn story(&self) -> String {
-        let History {
-            begin,
-            sizes,
-            seed,
-            steps,
-        } = &self.history;
-        let mut story = format!("begin: {begin:?}, {sizes:?}, seed {seed}\n");
-        for (place, (step, record)) in steps.iter().zip(self.history.records()).enumerate() {
-            let (number, fields) = second::read(&record);
-            let shown = if number == 0 {
-                format!("{fields:?}")
-            } else {
-                format!("{record:02X?}")
-            };
-            story += &format!("step {}: {step:?}\n    {shown}\n", place + 1);
-        }
-        story
-            + &format!(
-                "after step {}: {}\n",
-                self.found.step + 1,
-                self.found.difference
-            )
+        let Found { step, difference } = &self.found;
+        told(&self.history) + &format!("after step {}: {difference}\n", step + 1)
     }
 }

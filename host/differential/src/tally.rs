@@ -2,6 +2,8 @@
 
 use std::fmt;
 
+use crate::replay::counts::Replays;
+
 /// The highest answer number.
 pub const LAST_ANSWER: usize = 40;
 const OPERATIONS: usize = 11;
@@ -16,6 +18,8 @@ pub struct Tally {
     pub on_largest: u64,
     /// Other calls that were compared: starts, reads, writes, lookups, statuses.
     pub other_calls: u64,
+    /// What replays of recordings came to. The entries replayed are not among the submissions.
+    pub replays: Replays,
 }
 
 impl Default for Tally {
@@ -25,6 +29,7 @@ impl Default for Tally {
             submissions: 0,
             on_largest: 0,
             other_calls: 0,
+            replays: Replays::default(),
         }
     }
 }
@@ -104,6 +109,7 @@ impl Tally {
         self.submissions += other.submissions;
         self.on_largest += other.on_largest;
         self.other_calls += other.other_calls;
+        self.replays.add(&other.replays);
     }
 }
 
@@ -135,12 +141,13 @@ impl fmt::Display for Tally {
         }
         let missing = self.missing();
         if missing.is_empty() {
-            write!(
+            writeln!(
                 f,
                 "every operation got every answer that the rules list for it"
-            )
+            )?;
         } else {
-            write!(f, "not reached (operation, answer): {missing:?}")
+            writeln!(f, "not reached (operation, answer): {missing:?}")?;
         }
+        write!(f, "{}", self.replays)
     }
 }

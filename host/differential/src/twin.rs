@@ -3,8 +3,10 @@
 use std::fmt;
 use std::panic::{catch_unwind, AssertUnwindSafe};
 
+use milebeacon::ffi::Verdict;
 use milebeacon::{ffi, Sizes, Tables};
 
+use crate::replay::verdict;
 use crate::tally::Tally;
 
 /// Five tables that a test owns.
@@ -45,6 +47,17 @@ pub fn slices(world: &World) -> [&[u64]; 5] {
         &world.escrows,
         &world.receipts,
         &world.journal,
+    ]
+}
+
+/// The same, to be changed.
+pub fn slices_mut(world: &mut World) -> [&mut Vec<u64>; 5] {
+    [
+        &mut world.header,
+        &mut world.wallets,
+        &mut world.escrows,
+        &mut world.receipts,
+        &mut world.journal,
     ]
 }
 
@@ -140,13 +153,26 @@ impl Twin {
         Ok(answer)
     }
 
+    /// Replays with both, and compares the verdict and every word of the tables.
+    pub fn replay(&mut self, recording: &[u8]) -> Result<Verdict, Difference> {
+        let lent_recording = recording.to_vec();
+        let core = ffi::replay(self.core.as_mut(), &lent_recording);
+        if lent_recording != recording {
+            return Err(Difference("the core has changed the recording".to_owned()));
+        }
+        let second = guarded(|| second::replay(&mut lent(&mut self.second), recording))?;
+        let found = same("what a replay finds", core, verdict(second))?;
+        self.compare()?;
+        Ok(found)
+    }
+
     fn compare(&self) -> Result<(), Difference> {
         first_difference(&self.core, &self.second).map_or(Ok(()), Err)
     }
 }
 
 /// A panic of the second program is a difference too: the core never stops short.
-fn guarded<T>(call: impl FnOnce() -> T) -> Result<T, Difference> {
+pub(crate) fn guarded<T>(call: impl FnOnce() -> T) -> Result<T, Difference> {
     catch_unwind(AssertUnwindSafe(call))
         .map_err(|_| Difference("the second program panics".to_owned()))
 }

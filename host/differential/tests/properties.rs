@@ -6,6 +6,9 @@ use differential::dice::Dice;
 use differential::history::{Begin, History};
 use differential::lookups;
 use differential::record::encode;
+use differential::replay::lent::{On, LENGTHS};
+use differential::replay::recording::{By, Change};
+use differential::replay::Replay;
 use differential::step::Step;
 use differential::tally::Tally;
 use differential::twin::{Difference, Twin, World};
@@ -101,6 +104,46 @@ fn histories() {
     });
 }
 
+fn replay() -> impl Strategy<Value = Replay> {
+    let change = prop_oneof![
+        Just(Change::Nothing),
+        Just(Change::Record),
+        Just(Change::Number),
+        Just(Change::NumberAbove),
+        Just(Change::Word),
+        Just(Change::WordThenCut),
+        (1..117usize).prop_map(Change::Cut),
+        Just(Change::Refusals),
+    ];
+    let length = (0..5usize, 0..LENGTHS.len())
+        .prop_map(|(table, length)| On::Length(table, LENGTHS[length]));
+    let on = prop_oneof![
+        3 => Just(On::Words),
+        2 => Just(On::InUse),
+        1 => Just(On::OtherSizes),
+        1 => length,
+    ];
+    let by = prop_oneof![Just(By::Core), Just(By::Second)];
+    (history(), by, (change, 0..60usize), on, any::<u64>()).prop_map(
+        |(history, by, (change, place), on, seed)| Replay {
+            history,
+            by,
+            change,
+            place,
+            on,
+            seed,
+        },
+    )
+}
+
+#[test]
+fn replays() {
+    check(replay(), |replay| {
+        let found = replay.compare(&mut Tally::default());
+        found.map(drop).map_err(failed)
+    });
+}
+
 /// Words that are often small or at a limit.
 fn word() -> impl Strategy<Value = u64> {
     prop_oneof![
@@ -151,6 +194,25 @@ fn any_tables_and_any_records() {
             .map(drop)
             .map_err(failed)
     });
+}
+
+#[test]
+fn any_tables_and_any_recording() {
+    let answer = (prop_oneof![Just(0), Just(3), any::<u8>()], word());
+    let entry = (fields(), answer);
+    let tail = prop_oneof![Just(Vec::new()), vec(any::<u8>(), 0..240)];
+    check(
+        (tables(), vec(entry, 0..4), tail),
+        |(world, entries, tail)| {
+            let mut recording = Vec::new();
+            for (fields, (number, word)) in entries {
+                recording.extend(second::entry(&encode(&fields), number, word));
+            }
+            recording.extend(tail);
+            let found = Twin::new(world).replay(&recording);
+            found.map(drop).map_err(failed)
+        },
+    );
 }
 
 #[test]

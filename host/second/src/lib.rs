@@ -1,5 +1,6 @@
 //! An independent second settlement core, written from the document
-//! "Exact rules of the settlement core" alone. Doc comments quote it.
+//! "Exact rules of the settlement core" and, of "Additional change requests",
+//! what has been asked for since. Doc comments quote them.
 //!
 //! The lent tables are decoded into plain structs, the work is done on those,
 //! and only after settling are they encoded back into the lent slices.
@@ -9,6 +10,7 @@
 mod lookups;
 mod record;
 mod refusals;
+mod replay;
 mod rows;
 mod run;
 mod settle;
@@ -18,6 +20,7 @@ mod tables;
 
 pub use lookups::{escrow_row, receipt_row, wallet_row};
 pub use record::{read, write, Submission};
+pub use replay::{entry, replay, Found, ENTRY_BYTES};
 pub use run::run;
 pub use status::status;
 pub use tables::{fresh, Tables};
