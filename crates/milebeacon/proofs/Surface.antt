@@ -4,14 +4,17 @@ use mathlib.Core.Path.{refl}
 use lib.Dec.{lit<, lit≤}
 use denote.Ref.{now}
 use Rattle.rules.specs.Ledger.{first-edition}
-use Rattle.rules.specs.Results.{Ran, exits, pair, Result, by-fresh, by-submit, by-read, by-write, by-status, by-wallet, by-escrow-place, by-receipt-place, Meets}
-use Rattle.rules.specs.Runs.{Surface, Calls-are-listed, Calls-decide, Runs-add-up, Runs-refuse-retries, Retries-change-nothing}
+use Rattle.rules.specs.Results.{Ran, exits, pair, Result, by-fresh, by-submit, by-replay, by-read, by-write, by-status, by-wallet, by-escrow-place, by-receipt-place, Meets}
+use Rattle.rules.specs.Runs.{Surface, Calls-are-listed, Calls-decide, Runs-add-up, Runs-refuse-retries, Retries-change-nothing, Runs-recordings-agree}
 use Rattle.rules.proofs.Runs.{calls-are-listed, calls-decide, runs-add-up, runs-refuse-retries, retries-change-nothing}
+use Rattle.rules.proofs.Recorded.{runs-recordings-agree}
 use Rattle.ledger.proofs.Surface.{five}
 use Rattle.milebeacon.proofs.milebeacon_fresh.Kinds as fresh-kinds
 use Rattle.milebeacon.proofs.milebeacon_fresh.Reads as fresh-reads
 use Rattle.milebeacon.proofs.milebeacon_submit.Kinds as submit-kinds
 use Rattle.milebeacon.proofs.milebeacon_submit.Reads as submit-reads
+use Rattle.milebeacon.proofs.milebeacon_replay.Kinds as replay-kinds
+use Rattle.milebeacon.proofs.milebeacon_replay.Reads as replay-reads
 use Rattle.milebeacon.proofs.milebeacon_read.Kinds as read-kinds
 use Rattle.milebeacon.proofs.milebeacon_read.Reads as read-reads
 use Rattle.milebeacon.proofs.milebeacon_write.Kinds as write-kinds
@@ -29,6 +32,7 @@ use Rattle.milebeacon.proofs.milebeacon_receipt_place.Reads as receipt-
 pub data Did : Type 0 where
   did-fresh : Ran fresh-kinds.ps fresh-kinds.r fresh-reads.Learnt → Did
   did-submit : Ran submit-kinds.ps submit-kinds.r submit-reads.Learnt → Did
+  did-replay : Ran replay-kinds.ps replay-kinds.r replay-reads.Learnt → Did
   did-read : Ran read-kinds.ps read-kinds.r read-reads.Learnt → Did
   did-write : Ran write-kinds.ps write-kinds.r write-reads.Learnt → Did
   did-status : Ran status-kinds.ps status-kinds.r status-reads.Learnt → Did
@@ -40,6 +44,7 @@ pub data Did : Type 0 where
 abbrev pub shows : Did → Result
 shows (did-fresh x) = by-fresh (five (x .args)) (five (exits x)) (x .answer)
 shows (did-submit x) = by-submit (five (x .args)) (five (exits x)) (now (x .args .1 .1 .1 .1 .1 .0)) (x .answer .number) (x .answer .word)
+shows (did-replay x) = by-replay (five (x .args)) (five (exits x)) (now (x .args .1 .1 .1 .1 .1 .0)) (x .answer)
 shows (did-read x) = by-read (now (x .args .0)) (x .answer)
 shows (did-write x) = by-write (x .args .0) (now (x .args .1 .0)) (now (exits x .1 .0)) (x .answer)
 shows (did-status x) = by-status (x .args .0) (x .answer)
@@ -53,6 +58,7 @@ shows (did-receipt-place x) =
 pub meets : (d : Did) → Meets first-edition (shows d)
 meets (did-fresh x) = (refl, x .meets)
 meets (did-submit x) = (refl, x .meets)
+meets (did-replay x) = (refl, x .meets)
 meets (did-read x) = x .meets
 meets (did-write x) = x .meets
 meets (did-status x) = x .meets
@@ -83,3 +89,6 @@ the-retry = runs-refuse-retries surface
 
 pub the-retry-changes-nothing : Retries-change-nothing surface
 the-retry-changes-nothing = retries-change-nothing surface
+
+pub recordings-agree : Runs-recordings-agree surface
+recordings-agree = runs-recordings-agree surface
