@@ -1,5 +1,6 @@
 // The calls on a ledger of any edition: what holds for every edition is written and proved once. Each call takes the edition by value and asks
-// of it only that it is `Sized`; `ledger` has the calls of each edition that there is, which ask nothing.
+// of it only that it is `Sized`; `ledger` has the calls of each edition that there is, which ask nothing. `step` alone asks something of the
+// tables, and no edition has it as a call.
 ghost use mathlib.Core.Path.{_≡_};
 ghost use lib.ListN.{length, replicate};
 ghost use Rattle.rules.specs.Ledger.{Sized, outcome, lengthsRight, fresh};

@@ -46,8 +46,8 @@ fn at_end(recording: &[u8], n: u64) -> Found
     Found::AllAgree(n)
 }
 
-// Every whole entry in turn, on the tables as they are, until one disagrees. They are sound at the start and stay so from entry to entry, so none
-// is tested for it: that reads every table whole.
+// Every whole entry in turn, on the tables as they are, until one disagrees. They are sound at the start and stay so from entry to entry, so this
+// is not tested at each: the test reads every table whole.
 fn replay_on(
     edition: Edition,
     header: &mut [u64],
@@ -65,7 +65,7 @@ fn replay_on(
     while k < entries {
         let at = k * ENTRY_BYTES;
         let end = at + RECORD_BYTES;
-        // Now, as entries are reported counted from 1.
+        // From here on k is the entry's own number: entries are reported counted from 1.
         k += 1;
         let recorded = recorded_at(recording, at);
         let answered = editions::step(
