@@ -17,23 +17,23 @@ use Rattle.rules.proofs.Rows.{rows-fit}
 use Rattle.rules.proofs.Tests.{header-wide, Few, counts-few, Right-ledger, sound-says, entry-says}
 use Rattle.rules.proofs.Formed.{Formed, formed-says}
 use Rattle.payments.specs.Entries.{Entries}
-use Rattle.refusals.specs.Ready.{Ready}
+use Rattle.refusals.specs.Checkable.{Checkable}
 
-module _ {ed : Edition} {h w e r j : List ℕ} {s : Submission} (given : Ready (ledgerOf ed h w e r j) s) where
+module _ {ed : Edition} {h w e r j : List ℕ} {s : Submission} (given : Checkable (ledgerOf ed h w e r j) s) where
   abbrev L : Ledger
   L = ledgerOf ed h w e r j
 
   right : Right-ledger L
-  right = sound-says L (given .right)
+  right = sound-says L (given .ready .sound)
 
   few : Few L
-  few = counts-few L (given .lengths) (right .header .within)
+  few = counts-few L (given .ready .lengths) (right .header .within)
 
   form : Formed s
   form = formed-says s (given .formed)
 
   pub header-there : ENTRIES < length h
-  header-there = header-wide L (given .lengths) (given .sized .header)
+  header-there = header-wide L (given .ready .lengths) (given .sized .header)
 
   pub wallets-few : getD h WALLETS 0 ≤ MAX-WALLETS
   wallets-few = few .wallets

@@ -10,7 +10,7 @@ use Rattle.rules.specs.Ledger.{Ledger}
 use Rattle.rules.specs.Refusals.{first, envelopeRefusals, operationRefusals}
 use Rattle.rules.specs.declared.Submission.{Submission}
 use Rattle.rules.proofs.Refused.{numbered, first-stop, first-pass}
-use Rattle.refusals.specs.Ready.{laterRefusals}
+use Rattle.refusals.specs.Checkable.{laterRefusals}
 
 -- one of two operations that follow each other
 pub either : (n op : ℕ) → n ≤ op → op < n + 2 → (op ≡ n) ⊎ (op ≡ n + 1)

@@ -1,2 +1,2 @@
 -- What the checks are given.
-pub mod Ready
+pub mod Checkable

@@ -3,7 +3,7 @@
 ghost use mathlib.Core.Path.{_≡_};
 ghost use Rattle.rules.specs.Moments.{tables, lent};
 ghost use Rattle.rules.specs.Refusals.{first, operationRefusals};
-ghost use Rattle.refusals.specs.Ready.{Ready, laterRefusals};
+ghost use Rattle.refusals.specs.Checkable.{Checkable, laterRefusals};
 use rules::Edition;
 use rules::Submission;
 use rules::limits::ACCEPT;
@@ -30,7 +30,7 @@ fn operation_refusal(
     journal: &[u64],
     s: Submission,
 ) -> u64
-    requires { ⌜ Ready (tables edition header wallets escrows receipts journal) s ⌝ }
+    requires { ⌜ Checkable (tables edition header wallets escrows receipts journal) s ⌝ }
     ensures { λ x. ⌜ x ≡ first (operationRefusals (lent edition header wallets escrows receipts journal .entry) s) ⌝ }
 {
     let op = s.op;
@@ -57,7 +57,7 @@ pub fn refusal(
     journal: &[u64],
     s: Submission,
 ) -> u64
-    requires { ⌜ Ready (tables edition header wallets escrows receipts journal) s ⌝ }
+    requires { ⌜ Checkable (tables edition header wallets escrows receipts journal) s ⌝ }
     ensures { λ x. ⌜ x ≡ first (laterRefusals (lent edition header wallets escrows receipts journal .entry) s) ⌝ }
 {
     let number = envelope::envelope_refusal(header, journal, s);

@@ -48,7 +48,7 @@ refusal-requires : tie.Need-refusal-requires
 refusal-requires c κs =
     let passed = c .before .before .before .before .before .before in
     let asked = start (read-stage passed) .pre in
-    record { sized = asked .0; lengths = asked .1 .lengths; right = asked .1 .sound; formed = formed passed }
+    record { sized = asked .0; ready = asked .1; formed = formed passed }
 
 refused-requires-2 : tie.Need-refused-requires-2
 refused-requires-2 c κs = search needs

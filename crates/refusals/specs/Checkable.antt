@@ -2,16 +2,15 @@
 use mathlib.Core.Path.{_≡_}
 use mathlib.Core.List.{List, _++_}
 use mathlib.Core.Bool.{true}
-use Rattle.rules.specs.Ledger.{Ledger, Sized, lengthsRight}
-use Rattle.rules.specs.Sound.{sound}
+use Rattle.rules.specs.Ledger.{Ledger, Sized}
+use Rattle.rules.specs.Sound.{Ready}
 use Rattle.rules.specs.Record.{wellFormed}
 use Rattle.rules.specs.Refusals.{Refusal, envelopeRefusals, operationRefusals}
 use Rattle.rules.specs.declared.Submission.{Submission}
 
-pub record Ready (L : Ledger) (s : Submission) : Type 0 where
+pub record Checkable (L : Ledger) (s : Submission) : Type 0 where
   pub sized : Sized (L .edition)
-  pub lengths : lengthsRight L ≡ true
-  pub right : sound L ≡ true
+  pub ready : Ready L
   pub formed : wellFormed s ≡ true
 
 abbrev pub laterRefusals : Ledger → Submission → List Refusal
