@@ -11,7 +11,6 @@ use rules::limits::MARK_0;
 use rules::limits::MARK_1;
 use rules::limits::RECORD_BYTES;
 
-pub mod bytes;
 mod form;
 pub mod trips;
 

@@ -32,7 +32,7 @@ fn recorded_at(recording: &[u8], at: usize) -> Answer
     ensures { λ x. ⌜ x ≡ answer (getD (now (recording .entry)) (at + ANSWER-AT) 0) (leAt 8 (now (recording .entry)) (at + WORD-AT)) ⌝ }
 {
     let number = recording[at + ANSWER_AT] as u64;
-    let word = record::bytes::word_at(recording, at + WORD_AT);
+    let word = bytes::word_at(recording, at + WORD_AT);
     Answer { number, word }
 }
 

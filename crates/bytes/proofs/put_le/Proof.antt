@@ -1,14 +1,14 @@
--- `record::bytes::put_le` meets its contract: what is left to store makes the whole.
+-- `bytes::put_le` meets its contract: what is left to store makes the whole.
 use mathlib.Core.Path.{_≡_, refl, sym, _∙_}
 use Prim.Native.Nat.{_+_}
 use native.Mathlib.Omega.{arith}
 use lib.ListN.{length, length-set}
-use Rattle.record.proofs.Stores.{lePut, le-all, le-next, le-done}
+use Rattle.bytes.proofs.Stores.{lePut, le-all, le-next, le-done}
 use borrow.Author.Needs.{needs}
-use Rattle.record.proofs.bytes.put_le.Statement.{statement}
-use Rattle.record.proofs.bytes.put_le.Tie as tie
-use Rattle.record.proofs.bytes.put_le.Reads as reads
-use Rattle.record.proofs.bytes.put_le.Lts as lts
+use Rattle.bytes.proofs.put_le.Statement.{statement}
+use Rattle.bytes.proofs.put_le.Tie as tie
+use Rattle.bytes.proofs.put_le.Reads as reads
+use Rattle.bytes.proofs.put_le.Lts as lts
 
 abbrev Inv-loop : tie.InvT-loop
 Inv-loop b₀ at n x left₀ p₀ v₀ b left p v = (length b ≡ length b₀) × (p + left ≡ at + n) × (lePut n b₀ at x ≡ lePut left b p v)

@@ -1,15 +1,15 @@
--- `record::bytes::put_words` meets its contract: what is left to store makes the whole.
+-- `bytes::put_words` meets its contract: what is left to store makes the whole.
 use mathlib.Core.Path.{_≡_, refl, sym, _∙_}
 use Prim.Native.Nat.{_+_, _-_, _*_, _≤_, _<_}
 use native.Mathlib.Omega.{arith}
 use lib.ListN.{length}
-use Rattle.record.proofs.Stores.{wordsPut, words-all, words-next, words-done}
+use Rattle.bytes.proofs.Stores.{wordsPut, words-all, words-next, words-done}
 use borrow.Author.Needs.{needs}
-use Rattle.record.proofs.bytes.put_words.Statement.{statement}
-use Rattle.record.proofs.bytes.put_words.Tie as tie
-use Rattle.record.proofs.bytes.put_words.Reads as reads
-use Rattle.record.proofs.bytes.put_words.Lts as lts
-use Rattle.record.proofs.bytes.put_le.Reads as put-le-reads
+use Rattle.bytes.proofs.put_words.Statement.{statement}
+use Rattle.bytes.proofs.put_words.Tie as tie
+use Rattle.bytes.proofs.put_words.Reads as reads
+use Rattle.bytes.proofs.put_words.Lts as lts
+use Rattle.bytes.proofs.put_le.Reads as put-le-reads
 
 abbrev Inv-loop : tie.InvT-loop
 Inv-loop b₀ at words i₀ p₀ b i p =

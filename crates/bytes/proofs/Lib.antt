@@ -1,0 +1,2 @@
+-- Laws that the stores of words rest on.
+pub mod Stores
