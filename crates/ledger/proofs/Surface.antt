@@ -6,7 +6,7 @@ use denote.Ref.{now}
 use Rattle.rules.specs.Ledger.{Ledger, first-edition}
 use Rattle.rules.specs.Moments.{Slice, tables}
 use Rattle.rules.specs.Record.{readOf}
-use Rattle.rules.specs.Results.{Ran, exits, pair, Result, by-fresh, by-submit, by-read, by-write, by-status, by-wallet, by-escrow-place, by-escrow-row, by-receipt-place, by-receipt-row, Meets}
+use Rattle.rules.specs.Results.{Ran, exits, Pair, pair, Result, by-fresh, by-submit, by-lookup, wallet-number, escrow-place, escrow-row, receipt-place, receipt-row, by-read, by-write, by-status, Meets}
 use Rattle.rules.specs.Runs.{Surface, Calls-are-listed, Calls-decide, Runs-add-up, Runs-refuse-retries, Retries-change-nothing}
 use Rattle.rules.proofs.Runs.{calls-are-listed, calls-decide, runs-add-up, runs-refuse-retries, retries-change-nothing}
 use Rattle.rules.proofs.status.Kinds as status-kinds
@@ -38,6 +38,10 @@ use Rattle.ledger.proofs.lookups.receipt_row.Reads as receipt-row-reads
 abbrev pub five : {X : Type 0} → Slice × (Slice × (Slice × (Slice × (Slice × X)))) → Ledger
 five t = tables first-edition (t .0) (t .1 .0) (t .1 .1 .0) (t .1 .1 .1 .0) (t .1 .1 .1 .1 .0)
 
+-- the header and one table, with which those of a lookup begin
+abbrev pub two : {X : Type 0} → Slice × (Slice × X) → Pair
+two t = pair (now (t .0)) (now (t .1 .0))
+
 -- one call of each public function
 pub data Did : Type 0 where
   did-fresh : Ran fresh-kinds.ps fresh-kinds.r fresh-reads.Learnt → Did
@@ -63,15 +67,11 @@ shows (did-write x) = by-write (x .args .0) (now (x .args .1 .0)) (now (exits x 
 shows (did-write-read x) = by-read (now (exits x .1 .0)) (x .answer)
 shows (did-read-write x) = by-write (readOf (now (x .args .0)) .submission) (now (x .args .1 .0)) (now (exits x .1 .0)) (x .answer)
 shows (did-status x) = by-status (x .args .0) (x .answer)
-shows (did-wallet x) = by-wallet (pair (now (x .args .0)) (now (x .args .1 .0))) (pair (now (exits x .0)) (now (exits x .1 .0))) (x .args .1 .1 .0) (x .answer .0)
-shows (did-escrow-place x) =
-    by-escrow-place (pair (now (x .args .0)) (now (x .args .1 .0))) (pair (now (exits x .0)) (now (exits x .1 .0))) (x .args .1 .1 .0 .0) (x .answer)
-shows (did-escrow-row x) =
-    by-escrow-row (pair (now (x .args .0)) (now (x .args .1 .0))) (pair (now (exits x .0)) (now (exits x .1 .0))) (x .args .1 .1 .0 .0) (now (x .answer))
-shows (did-receipt-place x) =
-    by-receipt-place (pair (now (x .args .0)) (now (x .args .1 .0))) (pair (now (exits x .0)) (now (exits x .1 .0))) (x .args .1 .1 .0 .0) (x .answer)
-shows (did-receipt-row x) =
-    by-receipt-row (pair (now (x .args .0)) (now (x .args .1 .0))) (pair (now (exits x .0)) (now (exits x .1 .0))) (x .args .1 .1 .0 .0) (now (x .answer))
+shows (did-wallet x) = by-lookup (two (x .args)) (two (exits x)) (wallet-number (x .args .1 .1 .0) (x .answer .0))
+shows (did-escrow-place x) = by-lookup (two (x .args)) (two (exits x)) (escrow-place (x .args .1 .1 .0 .0) (x .answer))
+shows (did-escrow-row x) = by-lookup (two (x .args)) (two (exits x)) (escrow-row (x .args .1 .1 .0 .0) (now (x .answer)))
+shows (did-receipt-place x) = by-lookup (two (x .args)) (two (exits x)) (receipt-place (x .args .1 .1 .0 .0) (x .answer))
+shows (did-receipt-row x) = by-lookup (two (x .args)) (two (exits x)) (receipt-row (x .args .1 .1 .0 .0) (now (x .answer)))
 
 -- each by its own contract
 pub meets : (d : Did) → Meets first-edition (shows d)

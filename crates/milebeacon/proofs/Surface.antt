@@ -4,11 +4,11 @@ use mathlib.Core.Path.{refl}
 use lib.Dec.{lit<, lit≤}
 use denote.Ref.{now}
 use Rattle.rules.specs.Ledger.{first-edition}
-use Rattle.rules.specs.Results.{Ran, exits, pair, Result, by-fresh, by-submit, by-replay, by-read, by-write, by-status, by-wallet, by-escrow-place, by-receipt-place, Meets}
+use Rattle.rules.specs.Results.{Ran, exits, Result, by-fresh, by-submit, by-replay, by-lookup, wallet-number, escrow-place, receipt-place, by-read, by-write, by-status, Meets}
 use Rattle.rules.specs.Runs.{Surface, Calls-are-listed, Calls-decide, Runs-add-up, Runs-refuse-retries, Retries-change-nothing, Runs-recordings-agree}
 use Rattle.rules.proofs.Runs.{calls-are-listed, calls-decide, runs-add-up, runs-refuse-retries, retries-change-nothing}
 use Rattle.rules.proofs.Recorded.{runs-recordings-agree}
-use Rattle.ledger.proofs.Surface.{five}
+use Rattle.ledger.proofs.Surface.{five, two}
 use Rattle.milebeacon.proofs.milebeacon_fresh.Kinds as fresh-kinds
 use Rattle.milebeacon.proofs.milebeacon_fresh.Reads as fresh-reads
 use Rattle.milebeacon.proofs.milebeacon_submit.Kinds as submit-kinds
@@ -48,11 +48,9 @@ shows (did-replay x) = by-replay (five (x .args)) (five (exits x)) (now (x .args
 shows (did-read x) = by-read (now (x .args .0)) (x .answer)
 shows (did-write x) = by-write (x .args .0) (now (x .args .1 .0)) (now (exits x .1 .0)) (x .answer)
 shows (did-status x) = by-status (x .args .0) (x .answer)
-shows (did-wallet x) = by-wallet (pair (now (x .args .0)) (now (x .args .1 .0))) (pair (now (exits x .0)) (now (exits x .1 .0))) (x .args .1 .1 .0) (x .answer .0)
-shows (did-escrow-place x) =
-    by-escrow-place (pair (now (x .args .0)) (now (x .args .1 .0))) (pair (now (exits x .0)) (now (exits x .1 .0))) (x .args .1 .1 .0 .0) (x .answer)
-shows (did-receipt-place x) =
-    by-receipt-place (pair (now (x .args .0)) (now (x .args .1 .0))) (pair (now (exits x .0)) (now (exits x .1 .0))) (x .args .1 .1 .0 .0) (x .answer)
+shows (did-wallet x) = by-lookup (two (x .args)) (two (exits x)) (wallet-number (x .args .1 .1 .0) (x .answer .0))
+shows (did-escrow-place x) = by-lookup (two (x .args)) (two (exits x)) (escrow-place (x .args .1 .1 .0 .0) (x .answer))
+shows (did-receipt-place x) = by-lookup (two (x .args)) (two (exits x)) (receipt-place (x .args .1 .1 .0 .0) (x .answer))
 
 -- each by its own contract
 pub meets : (d : Did) → Meets first-edition (shows d)

@@ -3,7 +3,7 @@
 use mathlib.Core.Path.{_≡_, refl, sym, ap, _∙_, subst}
 use mathlib.Core.Logic.{_≢_, _⊎_, inl, inr}
 use mathlib.Core.List.{List, []}
-use mathlib.Core.Bool.{Bool, true, false, cond, not, _&&_}
+use mathlib.Core.Bool.{true, false, not, _&&_, true≢false}
 use Prim.Native.Nat.{ℕ, _+_, _-_, _*_, _≤_, _<_}
 use native.Mathlib.Omega.{arith}
 use lib.ListN.{getD, length, take, drop, length-take, length-drop}
@@ -42,33 +42,30 @@ refusal-changes-nothing L b ne = record {
     refused : answerOf L (readOf b) ≢ 0
     refused e = ne (number-is L b ∙ e)
 
-pub fresh-answers : Fresh-answers
+-- a start afresh, by its two cases
+pub fresh-case : (P : Outcome → Type 0) (L : Ledger) → (lengthsRight L ≡ true → P (outcome 0 0 (setHeader (freshHeader (L .edition)) L)))
+    → (lengthsRight L ≡ false → P (outcome 1 0 L)) → P (fresh L)
 unfolding fresh
+fresh-case P L = cond-case P (lengthsRight L) (outcome 0 0 (setHeader (freshHeader (L .edition)) L)) (outcome 1 0 L)
+
+pub fresh-answers : Fresh-answers
 fresh-answers L =
-    cond-case
+    fresh-case
     (λ (o : Outcome). ((lengthsRight L ≡ true) × (o ≡ outcome 0 0 (setHeader (freshHeader (L .edition)) L))) ⊎ ((lengthsRight L ≡ false) × (o ≡ outcome 1 0 L)))
-    (lengthsRight L) (outcome 0 0 (setHeader (freshHeader (L .edition)) L)) (outcome 1 0 L) (λ e. inl (e, refl)) (λ e. inr (e, refl))
+    L (λ e. inl (e, refl)) (λ e. inr (e, refl))
 
--- so the lengths are right exactly if the answer is 0
+-- so the lengths are right exactly if the answer is 0, and otherwise nothing changes
 pub fresh-right : (L : Ledger) → fresh L .number ≡ 0 → lengthsRight L ≡ true
-fresh-right L z = go (fresh-answers L)
-  where
-    some : _≢_ {A = ℕ} 1 0
-    some e = omega (arith, e)
-
-    go : ((lengthsRight L ≡ true) × (fresh L ≡ outcome 0 0 (setHeader (freshHeader (L .edition)) L))) ⊎ ((lengthsRight L ≡ false) × (fresh L ≡ outcome 1 0 L)) → lengthsRight L ≡ true
-    go (inl x) = x .0
-    go (inr x) = absurd (some (sym (ap (λ (o : Outcome). o .number) (x .1)) ∙ z))
+fresh-right L = fresh-case (λ (o : Outcome). o .number ≡ 0 → lengthsRight L ≡ true) L (λ e z. e) (λ e z. absurd (omega (arith, z)))
 
 pub fresh-zero : (L : Ledger) → lengthsRight L ≡ true → fresh L .number ≡ 0
-unfolding fresh
-fresh-zero L h = ap (λ (b : Bool). cond b (outcome 0 0 (setHeader (freshHeader (L .edition)) L)) (outcome 1 0 L) .number) h
+fresh-zero L h = fresh-case (λ (o : Outcome). o .number ≡ 0) L (λ e. refl) (λ e. absurd (true≢false (sym h ∙ e)))
+
+pub fresh-wrong : (L : Ledger) → lengthsRight L ≡ false → fresh L ≡ outcome 1 0 L
+fresh-wrong L h = fresh-case (λ (o : Outcome). o ≡ outcome 1 0 L) L (λ e. absurd (true≢false (sym e ∙ h))) (λ e. refl)
 
 pub fresh-refused : (L : Ledger) → fresh L .number ≢ 0 → started L ≡ L
-unfolding fresh
-fresh-refused L =
-    cond-case (λ (o : Outcome). o .number ≢ 0 → o .left ≡ L) (lengthsRight L) (outcome 0 0 (setHeader (freshHeader (L .edition)) L)) (outcome 1 0 L)
-    (λ e n. absurd (n refl)) (λ e n. refl)
+fresh-refused L = fresh-case (λ (o : Outcome). o .number ≢ 0 → o .left ≡ L) L (λ e n. absurd (n refl)) (λ e n. refl)
 
 pub some-are-lent : Some-are-lent
 unfolding lengthsRight

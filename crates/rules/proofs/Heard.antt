@@ -13,7 +13,7 @@ use Rattle.rules.specs.Submit.{submit}
 use Rattle.rules.specs.History.{Call, starts-afresh, submits, reads, writes, asks-status, finds-wallet, finds-escrow, finds-receipt, Event, Said, saidOf, submitted, begun, leaves, says, after, said, unbroken}
 use Rattle.rules.specs.Promises.{started, Refused}
 use Rattle.rules.proofs.Lengths.{lengths-stay}
-use Rattle.rules.proofs.Replay.{replay-guard}
+use Rattle.rules.proofs.ReplayGuard.{replay-guard}
 
 -- ---- calls, and then more calls
 

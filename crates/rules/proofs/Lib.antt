@@ -30,7 +30,7 @@ pub mod Places
 pub mod Demand12
 pub mod Keeps
 pub mod Lengths
-pub mod Replay
+pub mod ReplayGuard
 pub mod Turns
 pub mod SweepPlan
 pub mod Passed

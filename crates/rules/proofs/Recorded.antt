@@ -18,11 +18,11 @@ use Rattle.rules.specs.History.{Call, starts-afresh, submits, reads, wri
 use Rattle.rules.specs.Promises.{started}
 use Rattle.rules.specs.Same.{Same-written}
 use Rattle.rules.specs.Agreement.{Finds, records}
-use Rattle.rules.specs.Results.{Result, by-fresh, by-submit, by-replay, by-read, by-write, by-status, by-wallet, by-escrow-place, by-escrow-row, by-receipt-place, by-receipt-row, Meets}
+use Rattle.rules.specs.Results.{Result, by-fresh, by-submit, by-replay, by-lookup, by-read, by-write, by-status, Meets}
 use Rattle.rules.specs.Runs.{LentOf, leftBy, heardIn, heardOf, recordedOf, Surface, Run, lastOf, heardBy, recordedBy, Runs-recordings-agree}
 use Rattle.rules.specs.declared.Verdict.{Verdict}
 use Rattle.rules.proofs.Bools.{and-fst, not-true-false}
-use Rattle.rules.proofs.Replay.{unbroken-parts}
+use Rattle.rules.proofs.ReplayGuard.{unbroken-parts}
 use Rattle.rules.proofs.Heard.{opening, some-heard, Begins, begins}
 use Rattle.rules.proofs.Recordings.{own-recordings-agree}
 use Rattle.rules.proofs.Results.{listed}
@@ -59,18 +59,10 @@ what-is-recorded e (by-submit lent left bytes number word) L m l u =
 what-is-recorded e (by-replay lent left recording verdict) L m l u =
     let heard = heardIn (eqb (verdict .finding) DISAGREES) (verdict .answered) (verdict .replayed) (entriesOf recording) in
     inr (record { recorded = refl; left = refused _ l (not-begun (verdict .number) heard u) (listed e (by-replay lent left recording verdict) m) })
+what-is-recorded e (by-lookup lent left looked) L m l u = inr (record { recorded = refl; left = did-as e (by-lookup lent left looked) L m l .left })
 what-is-recorded e (by-read bytes answer) L m l u = inr (record { recorded = refl; left = refl })
 what-is-recorded e (by-write s out left number) L m l u = inr (record { recorded = refl; left = refl })
 what-is-recorded e (by-status number status) L m l u = inr (record { recorded = refl; left = refl })
-what-is-recorded e (by-wallet lent left id number) L m l u = inr (record { recorded = refl; left = did-as e (by-wallet lent left id number) L m l .left })
-what-is-recorded e (by-escrow-place lent left number place) L m l u =
-    inr (record { recorded = refl; left = did-as e (by-escrow-place lent left number place) L m l .left })
-what-is-recorded e (by-escrow-row lent left number part) L m l u =
-    inr (record { recorded = refl; left = did-as e (by-escrow-row lent left number part) L m l .left })
-what-is-recorded e (by-receipt-place lent left number place) L m l u =
-    inr (record { recorded = refl; left = did-as e (by-receipt-place lent left number place) L m l .left })
-what-is-recorded e (by-receipt-row lent left number part) L m l u =
-    inr (record { recorded = refl; left = did-as e (by-receipt-row lent left number part) L m l .left })
 
 -- calls of which nothing is heard leave the ledger
 nothing-heard : (L : Ledger) (cs : List Call) → said L cs ≡ [] → after L cs ≡ L

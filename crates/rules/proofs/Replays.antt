@@ -10,7 +10,7 @@ use native.Mathlib.Omega.{arith}
 use lib.Dec.{eqb}
 use borrow.Author.Tests.{eqb-true}
 use Rattle.rules.specs.Limits.{NOT-REPLAYED, DISAGREES}
-use Rattle.rules.specs.Ledger.{Ledger, Outcome, outcome, setHeader, lengthsRight, freshHeader, fresh}
+use Rattle.rules.specs.Ledger.{Ledger, Outcome, lengthsRight, fresh}
 use Rattle.rules.specs.Submit.{submit}
 use Rattle.rules.specs.Recording.{Entry, entriesOf, cutShort}
 use Rattle.rules.specs.Replay.{Next, on, stop, Gone, gone, further, through, answer, agrees, compared, ended, replayOn, replay, verdict, verdictOf, told}
@@ -23,7 +23,7 @@ use Rattle.rules.specs.declared.Found.{Found}
 use Rattle.rules.specs.declared.Found.the-variants.{WrongLength, AllAgree, CutShort, Disagrees}
 use Rattle.rules.specs.declared.Verdict.{Verdict}
 use Rattle.rules.proofs.Bools.{cond-case, and-fst, and-snd}
-use Rattle.rules.proofs.Demand12.{on-the-list, fresh-answers}
+use Rattle.rules.proofs.Demand12.{on-the-list, fresh-zero, fresh-wrong}
 
 -- the first n entries, submitted
 abbrev pub submissions : ℕ → List Entry → List Call
@@ -125,27 +125,19 @@ replays-on L r z g c =
 
 pub replays : (L : Ledger) (r : List ℕ) → Replays L r (replay submit L r)
 unfolding replay replayOn
-replays L r = go (fresh-answers L)
-  where
-    go : ((lengthsRight L ≡ true) × (fresh L ≡ outcome 0 0 (setHeader (freshHeader (L .edition)) L))) ⊎ ((lengthsRight L ≡ false) × (fresh L ≡ outcome 1 0 L))
-        → Replays L r (replay submit L r)
-    go (inl x) =
-        subst (λ (b : Bool). Replays L r (cond b (replayOn submit (started L) r) (gone WrongLength L))) (sym (x .0))
-        (replays-on L r (ap (λ (o : Outcome). o .number) (x .1)) _ (as-calls (cutShort r) 0 (started L) (entriesOf r)))
-    go (inr x) =
-        subst (λ (b : Bool). Replays L r (cond b (replayOn submit (started L) r) (gone WrongLength L))) (sym (x .0))
-        (record {
-          listed = inr (refl, refl);
-          left = sym (ap (λ (o : Outcome). o .left) (x .1));
-          heard = ap (λ (n : ℕ). begun n ∷ []) (sym (ap (λ (o : Outcome). o .number) (x .1)));
-        })
+replays L r =
+    cond-case (Replays L r) (lengthsRight L) (replayOn submit (started L) r) (gone WrongLength L)
+    (λ right. replays-on L r (fresh-zero L right) _ (as-calls (cutShort r) 0 (started L) (entriesOf r)))
+    (λ wrong.
+    let o = sym (fresh-wrong L wrong) in
+    record { listed = inr (refl, refl); left = ap (λ (o : Outcome). o .left) o; heard = ap (λ (o : Outcome). begun (o .number) ∷ []) o })
 
 pub replay-answers : Replay-answers
 unfolding replay replayOn
-replay-answers L r = go (fresh-answers L)
-  where
-    go : ((lengthsRight L ≡ true) × (fresh L ≡ outcome 0 0 (setHeader (freshHeader (L .edition)) L))) ⊎ ((lengthsRight L ≡ false) × (fresh L ≡ outcome 1 0 L))
-        → ((lengthsRight L ≡ true) × (verdictOf (replay submit L r .found) .number ≡ 0))
-        ⊎ ((lengthsRight L ≡ false) × (told (replay submit L r) ≡ gone (verdict 1 NOT-REPLAYED 0 (answer 0 0) (answer 0 0)) L))
-    go (inl x) = inl (x .0, rw (x .0) (as-calls (cutShort r) 0 (started L) (entriesOf r) .number))
-    go (inr x) = inr (x .0, rw (x .0) refl)
+replay-answers L r =
+    cond-case
+    (λ (g : Gone Found).
+    ((lengthsRight L ≡ true) × (verdictOf (g .found) .number ≡ 0))
+    ⊎ ((lengthsRight L ≡ false) × (told g ≡ gone (verdict 1 NOT-REPLAYED 0 (answer 0 0) (answer 0 0)) L)))
+    (lengthsRight L) (replayOn submit (started L) r) (gone WrongLength L)
+    (λ right. inl (right, as-calls (cutShort r) 0 (started L) (entriesOf r) .number)) (λ wrong. inr (wrong, refl))

@@ -2,36 +2,31 @@
 use mathlib.Core.Path.{_≡_, sym, ap, _∙_, subst}
 use mathlib.Core.Logic.{_≢_, _⊎_, inl, inr}
 use mathlib.Core.List.{List, []}
-use mathlib.Core.Bool.{true, false}
 use Prim.Native.Nat.{ℕ, _≤_}
 use lib.ListN.{length, List·getD-eq-default}
 use Rattle.rules.specs.Limits.{WALLET-LEN, RECEIPT-LEN, ESCROWS, RECEIPTS, MAX-ESCROWS, MAX-RECEIPTS}
 use Rattle.rules.specs.Table.{rowsIn}
-use Rattle.rules.specs.Ledger.{Edition, Ledger, Outcome, outcome, setHeader, lengthsRight, freshHeader, fresh}
+use Rattle.rules.specs.Ledger.{Edition, Ledger, Outcome, outcome, setHeader, freshHeader}
 use Rattle.rules.specs.Record.{readOf, nothing, Written}
 use Rattle.rules.specs.Refusals.{refusals}
 use Rattle.rules.specs.Submit.{submit}
 use Rattle.rules.specs.Replay.{Gone}
 use Rattle.rules.specs.Status.{statuses}
 use Rattle.rules.specs.Promises.{IsFirst, Refused}
-use Rattle.rules.specs.Results.{Result, by-fresh, by-submit, by-replay, by-read, by-write, by-status, by-wallet, by-escrow-place, by-escrow-row, by-receipt-place, by-receipt-row, Meets, Listed, Decided, DecidedBy}
+use Rattle.rules.specs.Results.{Pair, Looked, wallet-number, escrow-place, escrow-row, receipt-place, receipt-row, Result, by-fresh, by-submit, by-replay, by-lookup, by-read, by-write, by-status, Finds-as, Meets, Part-of, Listed, Decided, DecidedBy}
 use Rattle.rules.specs.declared.Read.{Read}
 use Rattle.rules.specs.declared.Verdict.{Verdict}
 use Rattle.rules.proofs.Places.{place-within}
-use Rattle.rules.proofs.Demand12.{on-the-list, refusal-changes-nothing, fresh-answers, read-answers, write-answers, part-answers, settles-exactly, first-refusal, laid-down}
+use Rattle.rules.proofs.Demand12.{on-the-list, refusal-changes-nothing, fresh-case, read-answers, write-answers, part-answers, settles-exactly, first-refusal, laid-down}
 use Rattle.rules.proofs.Replays.{replays}
 
 -- ---- a start afresh
 
 listed-fresh : (e : Edition) (lent left : Ledger) (number : ℕ) → Meets e (by-fresh lent left number) → Listed e (by-fresh lent left number)
-listed-fresh e lent left number m = go (fresh-answers lent)
-  where
-    go : ((lengthsRight lent ≡ true) × (fresh lent ≡ outcome 0 0 (setHeader (freshHeader (lent .edition)) lent))) ⊎ ((lengthsRight lent ≡ false) × (fresh lent ≡ outcome 1 0 lent))
-        → Listed e (by-fresh lent left number)
-    go (inl x) =
-        let o = m .1 ∙ x .1 in
-        inl (ap (λ (o : Outcome). o .number) o, ap (λ (o : Outcome). o .left) o ∙ ap (λ (d : Edition). setHeader (freshHeader d) lent) (m .0))
-    go (inr x) = let o = m .1 ∙ x .1 in inr (ap (λ (o : Outcome). o .number) o, ap (λ (o : Outcome). o .left) o)
+listed-fresh e lent left number m =
+    fresh-case (λ (o : Outcome). outcome number 0 left ≡ o → Listed e (by-fresh lent left number)) lent
+    (λ right o. inl (ap (λ (o : Outcome). o .number) o, ap (λ (o : Outcome). o .left) o ∙ ap (λ (d : Edition). setHeader (freshHeader d) lent) (m .0)))
+    (λ wrong o. inr (ap (λ (o : Outcome). o .number) o, ap (λ (o : Outcome). o .left) o)) (m .1)
 
 -- ---- a submission
 
@@ -61,6 +56,20 @@ module _ (lent left : Ledger) (bytes : List ℕ) (number word : ℕ) (m : outcom
         (word-of ∙ ap (λ (o : Outcome). o .word) o, left-of ∙ ap (λ (o : Outcome). o .left) o);
   }
 
+-- ---- a lookup
+
+part-of : (e : Edition) (lent : Pair) (looked : Looked) → Finds-as e lent looked → Part-of e (lent .table) looked
+part-of e lent (wallet-number id number) m =
+    subst (λ (n : ℕ). n ≤ rowsIn WALLET-LEN (lent .table)) (sym m) (part-answers e (lent .header) (lent .table) id .2)
+part-of e lent (escrow-place number place) m =
+    subst (λ (p : ℕ). p ≤ length (lent .table)) (sym m) (place-within (e .header) ESCROWS (e .escrow) MAX-ESCROWS (lent .header) (lent .table) number)
+part-of e lent (escrow-row number part) m =
+    subst (λ (p : List ℕ). (p ≡ []) ⊎ (length p ≡ e .escrow)) (sym m) (part-answers e (lent .header) (lent .table) number .0)
+part-of e lent (receipt-place number place) m =
+    subst (λ (p : ℕ). p ≤ length (lent .table)) (sym m) (place-within (e .header) RECEIPTS RECEIPT-LEN MAX-RECEIPTS (lent .header) (lent .table) number)
+part-of e lent (receipt-row number part) m =
+    subst (λ (p : List ℕ). (p ≡ []) ⊎ (length p ≡ RECEIPT-LEN)) (sym m) (part-answers e (lent .header) (lent .table) number .1)
+
 -- ---- any call
 
 pub listed : (e : Edition) (r : Result) → Meets e r → Listed e r
@@ -69,31 +78,18 @@ listed e (by-submit lent left bytes number word) m = listed-submit lent left byt
 listed e (by-replay lent left recording verdict) m =
     subst (λ (g : Gone Verdict). ((g .found .number ≡ 0) × (g .found .answered .number ≤ 40)) ⊎ ((g .found .number ≡ 1) × (g .left ≡ lent))) (sym (m .1))
     (replays lent recording .listed)
+listed e (by-lookup lent left looked) m = (m .0, part-of e lent looked (m .1))
 listed e (by-read bytes answer) m =
     subst (λ (r : Read). (r .number ≡ 0) ⊎ ((r .number ≡ 3) × (r .submission ≡ nothing))) (sym m) (read-answers bytes)
 listed e (by-write s out left number) m =
     subst (λ (w : Written). (w .number ≡ 0) ⊎ ((w .number ≡ 3) × (w .out ≡ out))) (sym m) (write-answers s out)
 listed e (by-status number status) m = λ l. m ∙ List·getD-eq-default statuses 500 l
-listed e (by-wallet lent left id number) m =
-    (m .0, subst (λ (n : ℕ). n ≤ rowsIn WALLET-LEN (lent .table)) (sym (m .1)) (part-answers e (lent .header) (lent .table) id .2))
-listed e (by-escrow-place lent left number place) m =
-    (m .0, subst (λ (p : ℕ). p ≤ length (lent .table)) (sym (m .1)) (place-within (e .header) ESCROWS (e .escrow) MAX-ESCROWS (lent .header) (lent .table) number))
-listed e (by-escrow-row lent left number part) m =
-    (m .0, subst (λ (p : List ℕ). (p ≡ []) ⊎ (length p ≡ e .escrow)) (sym (m .1)) (part-answers e (lent .header) (lent .table) number .0))
-listed e (by-receipt-place lent left number place) m =
-    (m .0, subst (λ (p : ℕ). p ≤ length (lent .table)) (sym (m .1)) (place-within (e .header) RECEIPTS RECEIPT-LEN MAX-RECEIPTS (lent .header) (lent .table) number))
-listed e (by-receipt-row lent left number part) m =
-    (m .0, subst (λ (p : List ℕ). (p ≡ []) ⊎ (length p ≡ RECEIPT-LEN)) (sym (m .1)) (part-answers e (lent .header) (lent .table) number .1))
 
 pub decided-by : (e : Edition) (r : Result) → Meets e r → DecidedBy r
 decided-by e (by-fresh lent left number) m = tt
 decided-by e (by-submit lent left bytes number word) m = decided lent left bytes number word (m .1)
 decided-by e (by-replay lent left recording verdict) m = tt
+decided-by e (by-lookup lent left looked) m = tt
 decided-by e (by-read bytes answer) m = tt
 decided-by e (by-write s out left number) m = tt
 decided-by e (by-status number status) m = tt
-decided-by e (by-wallet lent left id number) m = tt
-decided-by e (by-escrow-place lent left number place) m = tt
-decided-by e (by-escrow-row lent left number part) m = tt
-decided-by e (by-receipt-place lent left number place) m = tt
-decided-by e (by-receipt-row lent left number part) m = tt

@@ -6,14 +6,14 @@ use mathlib.Core.List.{List, [], _∷_, _++_, append-assoc}
 use Prim.Native.Nat.{ℕ, _≤_}
 use native.Mathlib.Omega.{arith}
 use Rattle.rules.specs.Limits.{HEADER-LEN, ESCROW-LEN}
-use Rattle.rules.specs.Ledger.{Edition, Ledger, Outcome, outcome, setHeader, setWallets, setEscrows, setReceipts, fresh}
+use Rattle.rules.specs.Ledger.{Edition, Ledger, Outcome, outcome, setHeader, fresh}
 use Rattle.rules.specs.Sound.{sound}
 use Rattle.rules.specs.Submit.{submit}
 use Rattle.rules.specs.Replay.{Gone, told, replay}
-use Rattle.rules.specs.History.{Call, starts-afresh, submits, reads, writes, asks-status, finds-wallet, finds-escrow, finds-receipt, Event, Said, saidOf, submitted, begun, after, said}
+use Rattle.rules.specs.History.{Call, starts-afresh, submits, Event, Said, saidOf, submitted, begun, after, said}
 use Rattle.rules.specs.Promises.{Lent, started, Adds-up}
-use Rattle.rules.specs.Results.{Result, by-fresh, by-submit, by-replay, by-read, by-write, by-status, by-wallet, by-escrow-place, by-escrow-row, by-receipt-place, by-receipt-row, Pair, Meets}
-use Rattle.rules.specs.Runs.{LentOf, leftBy, heardOf, Surface, Run, lastOf, heardBy, Calls-are-listed, Calls-decide, Runs-add-up, Runs-refuse-retries, Retries-change-nothing}
+use Rattle.rules.specs.Results.{Pair, Looked, wallet-number, escrow-place, escrow-row, receipt-place, receipt-row, Result, by-fresh, by-submit, by-replay, by-lookup, by-read, by-write, by-status, Meets}
+use Rattle.rules.specs.Runs.{asked, setAsked, LentOf, leftBy, heardOf, Surface, Run, lastOf, heardBy, Calls-are-listed, Calls-decide, Runs-add-up, Runs-refuse-retries, Retries-change-nothing}
 use Rattle.rules.specs.declared.Verdict.{Verdict}
 use Rattle.rules.proofs.Demand12.{fresh-right}
 use Rattle.rules.proofs.Books.{the-books}
@@ -24,31 +24,34 @@ use Rattle.rules.proofs.Results.{listed, decided-by}
 
 -- ---- one call
 
--- what was called. A replay is a start afresh, and then submissions.
+-- the calls of which it is one or several, or none if nothing can change and nothing is heard. A replay is a start afresh, and then submissions.
 abbrev pub callsOf : Result → List Call
 callsOf (by-fresh lent left number) = starts-afresh ∷ []
 callsOf (by-submit lent left bytes number word) = submits bytes ∷ []
 callsOf (by-replay lent left recording verdict) = replay-calls recording verdict
-callsOf (by-read bytes answer) = reads bytes ∷ []
-callsOf (by-write s out left number) = writes s out ∷ []
-callsOf (by-status number status) = asks-status number ∷ []
-callsOf (by-wallet lent left id number) = finds-wallet id ∷ []
-callsOf (by-escrow-place lent left number place) = finds-escrow number ∷ []
-callsOf (by-escrow-row lent left number part) = finds-escrow number ∷ []
-callsOf (by-receipt-place lent left number place) = finds-receipt number ∷ []
-callsOf (by-receipt-row lent left number part) = finds-receipt number ∷ []
+callsOf (by-lookup lent left looked) = []
+callsOf (by-read bytes answer) = []
+callsOf (by-write s out left number) = []
+callsOf (by-status number status) = []
 
 -- what a call did by the definitions: it left what they leave, and what was heard of it is what they say
 pub record Did-as (r : Result) (L : Ledger) : Type 0 where
   pub left : leftBy r L ≡ after L (callsOf r)
   pub heard : heardOf r ≡ said L (callsOf r)
 
--- a lookup leaves its slices, and so the ledger, whichever table `set` lays down
-same-ledger : (L : Ledger) (set : List ℕ → Ledger → Ledger) (table : Ledger → List ℕ) → set (table L) L ≡ L → {left lent : Pair} → left ≡ lent
-    → (lent .header ≡ L .header) × (lent .table ≡ table L) → setHeader (left .header) (set (left .table) L) ≡ L
-same-ledger L set table same e l =
-    ap₂ (λ (h t : List ℕ). setHeader h (set t L)) (ap (λ (p : Pair). p .header) e ∙ l .0) (ap (λ (p : Pair). p .table) e ∙ l .1)
-    ∙ ap (setHeader (L .header)) same
+-- a lookup leaves its slices, and so the ledger, whichever table it was lent
+same-table : (looked : Looked) (L : Ledger) → setAsked looked (asked looked L) L ≡ L
+same-table (wallet-number id number) L = refl
+same-table (escrow-place number place) L = refl
+same-table (escrow-row number part) L = refl
+same-table (receipt-place number place) L = refl
+same-table (receipt-row number part) L = refl
+
+same-ledger : (L : Ledger) (looked : Looked) {left lent : Pair} → left ≡ lent → (lent .header ≡ L .header) × (lent .table ≡ asked looked L)
+    → setHeader (left .header) (setAsked looked (left .table) L) ≡ L
+same-ledger L looked e l =
+    ap₂ (λ (h t : List ℕ). setHeader h (setAsked looked t L)) (ap (λ (p : Pair). p .header) e ∙ l .0) (ap (λ (p : Pair). p .table) e ∙ l .1)
+    ∙ ap (setHeader (L .header)) (same-table looked L)
 
 pub did-as : (e : Edition) (r : Result) (L : Ledger) → Meets e r → LentOf r L → Did-as r L
 did-as e (by-fresh lent left number) L m l =
@@ -60,14 +63,10 @@ did-as e (by-submit lent left bytes number word) L m l =
 did-as e (by-replay lent left recording verdict) L m l =
     subst (λ (g : Gone Verdict). Did-as (by-replay lent (g .left) recording (g .found)) L) (sym (m .1 ∙ ap (λ (K : Ledger). told (replay submit K recording)) l))
     (record { left = replays L recording .left; heard = replays L recording .heard })
+did-as e (by-lookup lent left looked) L m l = record { left = same-ledger L looked (m .0) l; heard = refl }
 did-as e (by-read bytes answer) L m l = record { left = refl; heard = refl }
 did-as e (by-write s out left number) L m l = record { left = refl; heard = refl }
 did-as e (by-status number status) L m l = record { left = refl; heard = refl }
-did-as e (by-wallet lent left id number) L m l = record { left = same-ledger L setWallets (λ (K : Ledger). K .wallets) refl (m .0) l; heard = refl }
-did-as e (by-escrow-place lent left number place) L m l = record { left = same-ledger L setEscrows (λ (K : Ledger). K .escrows) refl (m .0) l; heard = refl }
-did-as e (by-escrow-row lent left number part) L m l = record { left = same-ledger L setEscrows (λ (K : Ledger). K .escrows) refl (m .0) l; heard = refl }
-did-as e (by-receipt-place lent left number place) L m l = record { left = same-ledger L setReceipts (λ (K : Ledger). K .receipts) refl (m .0) l; heard = refl }
-did-as e (by-receipt-row lent left number part) L m l = record { left = same-ledger L setReceipts (λ (K : Ledger). K .receipts) refl (m .0) l; heard = refl }
 
 -- ---- the edition
 
@@ -76,14 +75,10 @@ edition-of : (e : Edition) (r : Result) (L : Ledger) → Meets e r → LentOf r 
 edition-of e (by-fresh lent left number) L m l = inl (sym (ap (λ (K : Ledger). K .edition) l) ∙ m .0)
 edition-of e (by-submit lent left bytes number word) L m l = inl (sym (ap (λ (K : Ledger). K .edition) l) ∙ m .0)
 edition-of e (by-replay lent left recording verdict) L m l = inl (sym (ap (λ (K : Ledger). K .edition) l) ∙ m .0)
+edition-of e (by-lookup lent left looked) L m l = inr (refl, ap (λ (K : Ledger). K .edition) (same-ledger L looked (m .0) l))
 edition-of e (by-read bytes answer) L m l = inr (refl, refl)
 edition-of e (by-write s out left number) L m l = inr (refl, refl)
 edition-of e (by-status number status) L m l = inr (refl, refl)
-edition-of e (by-wallet lent left id number) L m l = inr (refl, refl)
-edition-of e (by-escrow-place lent left number place) L m l = inr (refl, refl)
-edition-of e (by-escrow-row lent left number part) L m l = inr (refl, refl)
-edition-of e (by-receipt-place lent left number place) L m l = inr (refl, refl)
-edition-of e (by-receipt-row lent left number part) L m l = inr (refl, refl)
 
 -- a call of which one submission is heard leaves the ledger if that is refused
 refused-leaves : (e : Edition) (r : Result) (L : Ledger) (f : Said) → Meets e r → LentOf r L → heardOf r ≡ (submitted f ∷ []) → f .number ≢ 0 → leftBy r L ≡ L
@@ -91,14 +86,10 @@ refused-leaves e (by-fresh lent left number) L f m l x n = absurd (omega (arith,
 refused-leaves e (by-submit lent left bytes number word) L f m l x n =
     listed e (by-submit lent left bytes number word) m .1 (λ z. n (sym (ap (λ (l : List Event). first-said f l .number) x) ∙ z)) .1 ∙ l
 refused-leaves e (by-replay lent left recording verdict) L f m l x n = absurd (omega (arith, ap opening x))
+refused-leaves e (by-lookup lent left looked) L f m l x n = same-ledger L looked (m .0) l
 refused-leaves e (by-read bytes answer) L f m l x n = refl
 refused-leaves e (by-write s out left number) L f m l x n = refl
 refused-leaves e (by-status number status) L f m l x n = refl
-refused-leaves e (by-wallet lent left id number) L f m l x n = did-as e (by-wallet lent left id number) L m l .left
-refused-leaves e (by-escrow-place lent left number place) L f m l x n = did-as e (by-escrow-place lent left number place) L m l .left
-refused-leaves e (by-escrow-row lent left number part) L f m l x n = did-as e (by-escrow-row lent left number part) L m l .left
-refused-leaves e (by-receipt-place lent left number place) L f m l x n = did-as e (by-receipt-place lent left number place) L m l .left
-refused-leaves e (by-receipt-row lent left number part) L f m l x n = did-as e (by-receipt-row lent left number part) L m l .left
 
 -- the book begins with the start
 begun-adds-up : (L : Ledger) (es : List Event) → Adds-up L es → Adds-up L (begun 0 ∷ es)

@@ -61,35 +61,51 @@ pub record Pair : Type 0 where
 abbrev pub pair : List ℕ → List ℕ → Pair
 pair header table = record { header = header; table = table }
 
+-- what a lookup was asked, and the answer
+pub data Looked : Type 0 where
+  wallet-number : (id number : ℕ) → Looked
+  escrow-place : (number place : ℕ) → Looked
+  escrow-row : (number : ℕ) (part : List ℕ) → Looked
+  receipt-place : (number place : ℕ) → Looked
+  receipt-row : (number : ℕ) (part : List ℕ) → Looked
+
 -- what was lent, what was left, what was asked, and the answer
 pub data Result : Type 0 where
   by-fresh : (lent left : Ledger) (number : ℕ) → Result
   by-submit : (lent left : Ledger) (bytes : List ℕ) (number word : ℕ) → Result
   by-replay : (lent left : Ledger) (recording : List ℕ) (verdict : Verdict) → Result
+  by-lookup : (lent left : Pair) (looked : Looked) → Result
   by-read : (bytes : List ℕ) (answer : Read) → Result
   by-write : (s : Submission) (out left : List ℕ) (number : ℕ) → Result
   by-status : (number status : ℕ) → Result
-  by-wallet : (lent left : Pair) (id number : ℕ) → Result
-  by-escrow-place : (lent left : Pair) (number place : ℕ) → Result
-  by-escrow-row : (lent left : Pair) (number : ℕ) (part : List ℕ) → Result
-  by-receipt-place : (lent left : Pair) (number place : ℕ) → Result
-  by-receipt-row : (lent left : Pair) (number : ℕ) (part : List ℕ) → Result
+
+-- a lookup finds what the definitions find
+abbrev pub Finds-as : Edition → Pair → Looked → Type 0
+Finds-as e lent (wallet-number id number) = number ≡ walletNumber e (lent .header) (lent .table) id
+Finds-as e lent (escrow-place number place) = place ≡ escrowPlace e (lent .header) (lent .table) number
+Finds-as e lent (escrow-row number part) = part ≡ escrowPart e (lent .header) (lent .table) number
+Finds-as e lent (receipt-place number place) = place ≡ receiptPlace e (lent .header) (lent .table) number
+Finds-as e lent (receipt-row number part) = part ≡ receiptPart e (lent .header) (lent .table) number
 
 -- it is what the definitions give
 abbrev pub Meets : Edition → Result → Type 0
 Meets e (by-fresh lent left number) = (lent .edition ≡ e) × (outcome number 0 left ≡ fresh lent)
 Meets e (by-submit lent left bytes number word) = (lent .edition ≡ e) × (outcome number word left ≡ submit lent bytes)
 Meets e (by-replay lent left recording verdict) = (lent .edition ≡ e) × (gone verdict left ≡ told (replay submit lent recording))
+Meets e (by-lookup lent left looked) = (left ≡ lent) × Finds-as e lent looked
 Meets e (by-read bytes answer) = answer ≡ readOf bytes
 Meets e (by-write s out left number) = _≡_ {A = Written} (record { number = number; out = left }) (writeOf s out)
 Meets e (by-status number status) = status ≡ statusOf number
-Meets e (by-wallet lent left id number) = (left ≡ lent) × (number ≡ walletNumber e (lent .header) (lent .table) id)
-Meets e (by-escrow-place lent left number place) = (left ≡ lent) × (place ≡ escrowPlace e (lent .header) (lent .table) number)
-Meets e (by-escrow-row lent left number part) = (left ≡ lent) × (part ≡ escrowPart e (lent .header) (lent .table) number)
-Meets e (by-receipt-place lent left number place) = (left ≡ lent) × (place ≡ receiptPlace e (lent .header) (lent .table) number)
-Meets e (by-receipt-row lent left number part) = (left ≡ lent) × (part ≡ receiptPart e (lent .header) (lent .table) number)
 
 -- ---- Demand 1 of a result: its answer is on the list, and a refusal answers the word 0 and changes nothing
+
+-- "a lookup: the row, row number or empty part"
+abbrev pub Part-of : Edition → List ℕ → Looked → Type 0
+Part-of e table (wallet-number id number) = number ≤ rowsIn WALLET-LEN table
+Part-of e table (escrow-place number place) = place ≤ length table
+Part-of e table (escrow-row number part) = (part ≡ []) ⊎ (length part ≡ e .escrow)
+Part-of e table (receipt-place number place) = place ≤ length table
+Part-of e table (receipt-row number part) = (part ≡ []) ⊎ (length part ≡ RECEIPT-LEN)
 
 abbrev pub Listed : Edition → Result → Type 0
 Listed e (by-fresh lent left number) =
@@ -97,14 +113,10 @@ Listed e (by-fresh lent left number) =
 Listed e (by-submit lent left bytes number word) = (number ≤ 40) × (number ≢ 0 → (word ≡ 0) × (left ≡ lent))
 Listed e (by-replay lent left recording verdict) =
     ((verdict .number ≡ 0) × (verdict .answered .number ≤ 40)) ⊎ ((verdict .number ≡ 1) × (left ≡ lent))
+Listed e (by-lookup lent left looked) = (left ≡ lent) × Part-of e (lent .table) looked
 Listed e (by-read bytes answer) = (answer .number ≡ 0) ⊎ ((answer .number ≡ 3) × (answer .submission ≡ nothing))
 Listed e (by-write s out left number) = (number ≡ 0) ⊎ ((number ≡ 3) × (left ≡ out))
 Listed e (by-status number status) = length statuses ≤ number → status ≡ 500
-Listed e (by-wallet lent left id number) = (left ≡ lent) × (number ≤ rowsIn WALLET-LEN (lent .table))
-Listed e (by-escrow-place lent left number place) = (left ≡ lent) × (place ≤ length (lent .table))
-Listed e (by-escrow-row lent left number part) = (left ≡ lent) × ((part ≡ []) ⊎ (length part ≡ e .escrow))
-Listed e (by-receipt-place lent left number place) = (left ≡ lent) × (place ≤ length (lent .table))
-Listed e (by-receipt-row lent left number part) = (left ≡ lent) × ((part ≡ []) ⊎ (length part ≡ RECEIPT-LEN))
 
 -- ---- Demand 2 of a result: settled exactly when no check refuses, and then as laid down; otherwise the first refusal
 
@@ -118,11 +130,7 @@ abbrev pub DecidedBy : Result → Type 0
 DecidedBy (by-fresh lent left number) = Unit {0}
 DecidedBy (by-submit lent left bytes number word) = Decided lent left bytes number word
 DecidedBy (by-replay lent left recording verdict) = Unit {0}
+DecidedBy (by-lookup lent left looked) = Unit {0}
 DecidedBy (by-read bytes answer) = Unit {0}
 DecidedBy (by-write s out left number) = Unit {0}
 DecidedBy (by-status number status) = Unit {0}
-DecidedBy (by-wallet lent left id number) = Unit {0}
-DecidedBy (by-escrow-place lent left number place) = Unit {0}
-DecidedBy (by-escrow-row lent left number part) = Unit {0}
-DecidedBy (by-receipt-place lent left number place) = Unit {0}
-DecidedBy (by-receipt-row lent left number part) = Unit {0}

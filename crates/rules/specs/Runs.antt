@@ -17,40 +17,44 @@ use Rattle.rules.specs.History.{Event, submitted, begun, Said, unbroken}
 use Rattle.rules.specs.Promises.{Adds-up, Same-lengths}
 use Rattle.rules.specs.Same.{Same-written}
 use Rattle.rules.specs.Agreement.{AllRecords, records}
-use Rattle.rules.specs.Results.{Result, by-fresh, by-submit, by-replay, by-read, by-write, by-status, by-wallet, by-escrow-place, by-escrow-row, by-receipt-place, by-receipt-row, Pair, Meets, Listed, DecidedBy}
+use Rattle.rules.specs.Results.{Looked, wallet-number, escrow-place, escrow-row, receipt-place, receipt-row, Result, by-fresh, by-submit, by-replay, by-lookup, by-read, by-write, by-status, Meets, Listed, DecidedBy}
 use Rattle.rules.specs.declared.Answer.{Answer}
 use Rattle.rules.specs.declared.Verdict.{Verdict}
+
+-- the table that a lookup is lent, and the ledger with another in its place
+abbrev pub asked : Looked → Ledger → List ℕ
+asked (wallet-number id number) L = L .wallets
+asked (escrow-place number place) L = L .escrows
+asked (escrow-row number part) L = L .escrows
+asked (receipt-place number place) L = L .receipts
+asked (receipt-row number part) L = L .receipts
+
+abbrev pub setAsked : Looked → List ℕ → Ledger → Ledger
+setAsked (wallet-number id number) = setWallets
+setAsked (escrow-place number place) = setEscrows
+setAsked (escrow-row number part) = setEscrows
+setAsked (receipt-place number place) = setReceipts
+setAsked (receipt-row number part) = setReceipts
 
 -- the slices lent to a call are those of the ledger
 abbrev pub LentOf : Result → Ledger → Type 0
 LentOf (by-fresh lent left number) L = lent ≡ L
 LentOf (by-submit lent left bytes number word) L = lent ≡ L
 LentOf (by-replay lent left recording verdict) L = lent ≡ L
+LentOf (by-lookup lent left looked) L = (lent .header ≡ L .header) × (lent .table ≡ asked looked L)
 LentOf (by-read bytes answer) L = Unit {0}
 LentOf (by-write s out left number) L = Unit {0}
 LentOf (by-status number status) L = Unit {0}
-LentOf (by-wallet lent left id number) L = (lent .header ≡ L .header) × (lent .table ≡ L .wallets)
-LentOf (by-escrow-place lent left number place) L = (lent .header ≡ L .header) × (lent .table ≡ L .escrows)
-LentOf (by-escrow-row lent left number part) L = (lent .header ≡ L .header) × (lent .table ≡ L .escrows)
-LentOf (by-receipt-place lent left number place) L = (lent .header ≡ L .header) × (lent .table ≡ L .receipts)
-LentOf (by-receipt-row lent left number part) L = (lent .header ≡ L .header) × (lent .table ≡ L .receipts)
 
 -- the ledger, with those slices as the call left them
-abbrev laid : (List ℕ → Ledger → Ledger) → Pair → Ledger → Ledger
-laid set p L = setHeader (p .header) (set (p .table) L)
-
 abbrev pub leftBy : Result → Ledger → Ledger
 leftBy (by-fresh lent left number) L = left
 leftBy (by-submit lent left bytes number word) L = left
 leftBy (by-replay lent left recording verdict) L = left
+leftBy (by-lookup lent left looked) L = setHeader (left .header) (setAsked looked (left .table) L)
 leftBy (by-read bytes answer) L = L
 leftBy (by-write s out left number) L = L
 leftBy (by-status number status) L = L
-leftBy (by-wallet lent left id number) L = laid setWallets left L
-leftBy (by-escrow-place lent left number place) L = laid setEscrows left L
-leftBy (by-escrow-row lent left number part) L = laid setEscrows left L
-leftBy (by-receipt-place lent left number place) L = laid setReceipts left L
-leftBy (by-receipt-row lent left number part) L = laid setReceipts left L
 
 -- a submission and its answer
 abbrev pub saidTo : List ℕ → Answer → Said
@@ -69,28 +73,20 @@ heardOf (by-fresh lent left number) = begun number ∷ []
 heardOf (by-submit lent left bytes number word) = submitted (saidTo bytes (answer number word)) ∷ []
 heardOf (by-replay lent left recording verdict) =
     begun (verdict .number) ∷ heardIn (eqb (verdict .finding) DISAGREES) (verdict .answered) (verdict .replayed) (entriesOf recording)
+heardOf (by-lookup lent left looked) = []
 heardOf (by-read bytes answer) = []
 heardOf (by-write s out left number) = []
 heardOf (by-status number status) = []
-heardOf (by-wallet lent left id number) = []
-heardOf (by-escrow-place lent left number place) = []
-heardOf (by-escrow-row lent left number part) = []
-heardOf (by-receipt-place lent left number place) = []
-heardOf (by-receipt-row lent left number part) = []
 
 -- what a host records of it: the record submitted, with its answer
 abbrev pub recordedOf : Result → List Entry
 recordedOf (by-fresh lent left number) = []
 recordedOf (by-submit lent left bytes number word) = asEntry bytes number word ∷ []
 recordedOf (by-replay lent left recording verdict) = []
+recordedOf (by-lookup lent left looked) = []
 recordedOf (by-read bytes answer) = []
 recordedOf (by-write s out left number) = []
 recordedOf (by-status number status) = []
-recordedOf (by-wallet lent left id number) = []
-recordedOf (by-escrow-place lent left number place) = []
-recordedOf (by-escrow-row lent left number part) = []
-recordedOf (by-receipt-place lent left number place) = []
-recordedOf (by-receipt-row lent left number part) = []
 
 -- the public calls of one edition: what each did, what that showed, and that by its own contract it is what the definitions give
 pub record Surface : Type 1 where
