@@ -7,7 +7,7 @@ use mathlib.Core.Bool.{Bool, true, cond, _&&_}
 use Prim.Native.Nat.{ℕ, zero, suc}
 use lib.ListN.{length}
 use lib.Dec.{eqb}
-use Rattle.rules.specs.Limits.{ESCROW-LEN, SWEEP, ALL-AGREE, DISAGREES}
+use Rattle.rules.specs.Limits.{ESCROW-LEN, RECORD-BYTES, SWEEP, ALL-AGREE, DISAGREES}
 use Rattle.rules.specs.Ledger.{Edition, Ledger, Sized, setHeader, setWallets, setEscrows, setReceipts}
 use Rattle.rules.specs.Record.{readOf}
 use Rattle.rules.specs.Sound.{sound}
@@ -16,7 +16,6 @@ use Rattle.rules.specs.Replay.{answer, verdict}
 use Rattle.rules.specs.History.{Event, submitted, begun, Said, unbroken}
 use Rattle.rules.specs.Promises.{Adds-up, Same-lengths}
 use Rattle.rules.specs.Same.{Same-written}
-use Rattle.rules.specs.Agreement.{AllRecords, records}
 use Rattle.rules.specs.Results.{Looked, wallet-number, escrow-place, escrow-row, receipt-place, receipt-row, Result, by-fresh, by-submit, by-replay, by-lookup, by-read, by-write, by-status, Meets, Listed, DecidedBy}
 use Rattle.rules.specs.declared.Answer.{Answer}
 use Rattle.rules.specs.declared.Verdict.{Verdict}
@@ -78,10 +77,10 @@ heardOf (by-read bytes answer) = []
 heardOf (by-write s out left number) = []
 heardOf (by-status number status) = []
 
--- what a host records of it: the record submitted, with its answer
+-- what a host records of it: the record submitted, with its answer. Bytes of another length are refused and cannot be an entry.
 abbrev pub recordedOf : Result → List Entry
 recordedOf (by-fresh lent left number) = []
-recordedOf (by-submit lent left bytes number word) = asEntry bytes number word ∷ []
+recordedOf (by-submit lent left bytes number word) = cond (eqb (length bytes) RECORD-BYTES) (asEntry bytes number word ∷ []) []
 recordedOf (by-replay lent left recording verdict) = []
 recordedOf (by-lookup lent left looked) = []
 recordedOf (by-read bytes answer) = []
@@ -147,12 +146,12 @@ module _ (S : Surface) where
       f .submission .signer ≡ e .submission .signer → f .submission .nonce ≡ e .submission .nonce →
       leftBy (S .shows again) (lastOf L run) ≡ lastOf L run
 
-  -- DOCUMENT 02, REQUEST 1. What was recorded in a run from a start afresh on, by records of 108 bytes, always agrees: all of it, replayed on any
-  -- tables of the same lengths, whatever words they hold. What is left there has the same header and written rows as what the run left.
+  -- DOCUMENT 02, REQUEST 1. What was recorded in a run from a start afresh on always agrees: all of it, replayed on any tables of the same
+  -- lengths, whatever words they hold. What is left there has the same header and written rows as what the run left.
   abbrev pub Runs-recordings-agree : Type 0
   Runs-recordings-agree =
       (L : Ledger) (start : S .Did) (run : List (S .Did)) → Run L (start ∷ run) → heardOf (S .shows start) ≡ (begun 0 ∷ []) →
-      unbroken (heardBy run) ≡ true → S .edition .escrow ≡ ESCROW-LEN → AllRecords (records (recordedBy run)) →
+      unbroken (heardBy run) ≡ true → S .edition .escrow ≡ ESCROW-LEN →
       (again : S .Did) (lent left : Ledger) (v : Verdict) → S .shows again ≡ by-replay lent left (recordingOf (recordedBy run)) v →
       Same-lengths lent L →
       (v ≡ verdict 0 ALL-AGREE (length (recordedBy run)) (answer 0 0) (answer 0 0)) × Same-written left (lastOf L (start ∷ run))
