@@ -7,8 +7,8 @@
 //! 0 asks for what would settle and the others for what lies at or beyond a limit of the rules.
 //! - [`start`] makes the tables to begin with, fresh or lent with a ledger in them, [`clauses`]
 //! breaks them in one clause at a time and [`damage`] anywhere.
-//! - [`twin`] does the calls and compares; a [`history`] is a start and steps. [`shrink`] makes a
-//! difference that it found small.
+//! - [`twin`] does the calls and compares; a [`history`] is a start and steps. [`shrink`] makes one
+//! in which a difference was found small, by the skeleton for all such things in [`small`].
 //! - [`replay`] records what a history submits and how it is answered, changes the recording, and
 //! replays it on other tables.
 //! - [`plan`] puts these together into a run of a given length from a given seed, of one [`mix`] or
@@ -29,6 +29,7 @@ pub mod plan;
 pub mod record;
 pub mod replay;
 pub mod shrink;
+pub mod small;
 pub mod start;
 pub mod step;
 pub mod tally;

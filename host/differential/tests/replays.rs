@@ -5,8 +5,8 @@ use differential::dice::Dice;
 use differential::history::{Begin, History};
 use differential::replay::lent::On;
 use differential::replay::recording::{By, Change};
-use differential::replay::small::{shrink_by, Small};
 use differential::replay::Replay;
+use differential::small::{shrink_by, Small};
 use differential::twin::{first_difference, lent, same, Difference, World};
 use milebeacon::Sizes;
 use second::{Found, ENTRY_BYTES};
@@ -74,7 +74,7 @@ fn difference(replay: &Replay, wrong: Replayer) -> Option<Difference> {
 }
 
 /// A long recording with this change in which the wrong replay is found, and the same made small.
-fn smallest(change: Change, wrong: Replayer) -> Small {
+fn smallest(change: Change, wrong: Replayer) -> Small<Replay> {
     for seed in 40.. {
         let replay = Replay {
             history: History::of(Begin::Fresh, Sizes::PROGRAM, &mut Dice::new(seed), 120),
@@ -95,9 +95,9 @@ fn smallest(change: Change, wrong: Replayer) -> Small {
 fn a_word_that_is_not_compared_takes_one_step() {
     let small = smallest(Change::Word, by_numbers_only);
     let told = small.story();
-    assert_eq!(small.replay.history.steps.len(), 1, "{told}");
-    assert_eq!(small.replay.on, On::Words, "{told}");
-    assert_eq!(small.replay.by, By::Core, "{told}");
+    assert_eq!(small.inner.history.steps.len(), 1, "{told}");
+    assert_eq!(small.inner.on, On::Words, "{told}");
+    assert_eq!(small.inner.by, By::Core, "{told}");
     assert!(told.contains("entry 1: answer and word"), "{told}");
     assert!(told.contains("found: "), "{told}");
     assert!(told.lines().count() <= 7, "{told}");
@@ -107,7 +107,7 @@ fn a_word_that_is_not_compared_takes_one_step() {
 fn a_cut_entry_that_is_replayed_takes_one_step() {
     let small = smallest(Change::Cut(110), cut_entry_too);
     let told = small.story();
-    assert_eq!(small.replay.history.steps.len(), 1, "{told}");
+    assert_eq!(small.inner.history.steps.len(), 1, "{told}");
     assert!(told.contains("entry 1: cut to 110 bytes"), "{told}");
     assert!(told.contains("header, row 1, word"), "{told}");
 }
@@ -115,5 +115,5 @@ fn a_cut_entry_that_is_replayed_takes_one_step() {
 #[test]
 fn an_entry_too_many_takes_two_steps() {
     let small = smallest(Change::Number, one_entry_late);
-    assert_eq!(small.replay.history.steps.len(), 2, "{}", small.story());
+    assert_eq!(small.inner.history.steps.len(), 2, "{}", small.story());
 }

@@ -2,7 +2,7 @@
 
 use differential::dice::Dice;
 use differential::history::{Begin, Found, History};
-use differential::shrink::shrink_by;
+use differential::small::shrink_by;
 use differential::tally::Tally;
 use differential::twin::{Difference, Twin};
 use milebeacon::Sizes;
@@ -30,7 +30,7 @@ fn smallest(number: u64) -> (usize, History) {
         let history = History::of(Begin::Fresh, Sizes::PROGRAM, &mut Dice::new(seed), 300);
         if let Some(found) = test(&history) {
             let length = found.step + 1;
-            return (length, shrink_by(&history, found, &test).history);
+            return (length, shrink_by(&history, found, &test).inner);
         }
     }
     unreachable!("there is always another seed")

@@ -8,7 +8,7 @@ pub mod counts;
 pub mod lent;
 pub mod recording;
 pub mod rounds;
-pub mod small;
+pub mod shrink;
 
 use milebeacon::ffi::{Answer, Verdict, ALL_AGREE, CUT_SHORT, DISAGREES};
 use second::Found;

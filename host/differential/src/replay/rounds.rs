@@ -4,7 +4,7 @@ use milebeacon::Sizes;
 
 use super::lent::{Length, On, LENGTHS};
 use super::recording::{By, Change};
-use super::small::shrink;
+use super::shrink::shrink;
 use super::Replay;
 use crate::dice::Dice;
 use crate::history::{Begin, History};

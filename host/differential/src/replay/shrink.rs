@@ -6,95 +6,60 @@ use super::lent::On;
 use super::recording::{By, Change};
 use super::Replay;
 use crate::history::Found;
-use crate::shrink::{shrink_by as shrink_history, told};
+use crate::shrink::told;
+use crate::small::{shrink_by, Shrink, Small, Test};
 use crate::tally::Tally;
 use crate::twin::Difference;
 
 /// How many entries are told.
 const TOLD: usize = 40;
 
-/// A difference in a small replay.
-#[derive(Clone, Debug)]
-pub struct Small {
-    /// The replay.
-    pub replay: Replay,
-    /// What was different.
-    pub difference: Difference,
-}
-
-/// What is looked for in a replay.
-pub type Test<'a> = &'a dyn Fn(&Replay) -> Option<Difference>;
-
 /// Leaves out steps and makes the rest plainer, as long as some difference is found.
-pub fn shrink(replay: &Replay, difference: Difference) -> Small {
+pub fn shrink(replay: &Replay, difference: Difference) -> Small<Replay> {
     shrink_by(replay, difference, &|replay| {
         replay.compare(&mut Tally::default()).err()
     })
 }
 
-/// The same as long as the test finds something.
-pub fn shrink_by(replay: &Replay, difference: Difference, test: Test<'_>) -> Small {
-    let mut small = Small {
-        replay: replay.clone(),
-        difference,
-    };
-    loop {
-        let before = small.replay.clone();
-        smaller_history(&mut small, test);
-        fewer_before(&mut small, test);
-        plainer(&mut small, test);
-        if small.replay == before {
-            return small;
-        }
+impl Shrink for Replay {
+    type Found = Difference;
+
+    fn smaller(small: &mut Small<Replay>, test: Test<'_, Replay>) {
+        smaller_history(small, test);
+        fewer_before(small, test);
+        plainer(small, test);
     }
 }
 
-/// Takes the candidate if something is found in it too.
-fn adopt(small: &mut Small, candidate: Replay, test: Test<'_>) -> bool {
-    if candidate == small.replay {
-        return false;
-    }
-    match test(&candidate) {
-        Some(difference) => {
-            *small = Small {
-                replay: candidate,
-                difference,
-            };
-            true
-        }
-        None => false,
-    }
-}
-
-fn smaller_history(small: &mut Small, test: Test<'_>) {
-    let replay = small.replay.clone();
+fn smaller_history(small: &mut Small<Replay>, test: Test<'_, Replay>) {
+    let replay = small.inner.clone();
     // every step may matter to what is found at the end
     let found = |difference, steps| Found {
         step: steps,
         difference,
     };
-    let first = found(small.difference.clone(), replay.history.steps.len());
-    let smaller = shrink_history(&replay.history, first, &|history| {
+    let first = found(small.found.clone(), replay.history.steps.len());
+    let smaller = shrink_by(&replay.history, first, &|history| {
         let candidate = Replay {
             history: history.clone(),
             ..replay.clone()
         };
         test(&candidate).map(|difference| found(difference, history.steps.len()))
     });
-    small.replay.history = smaller.history;
-    small.difference = smaller.found.difference;
+    small.inner.history = smaller.inner;
+    small.found = smaller.found.difference;
 }
 
 /// Leaves out steps before the entry that is changed, which then stands at an earlier place.
-fn fewer_before(small: &mut Small, test: Test<'_>) {
-    let mut width = small.replay.place;
+fn fewer_before(small: &mut Small<Replay>, test: Test<'_, Replay>) {
+    let mut width = small.inner.place;
     while width > 0 {
         let mut from = 0;
-        while from + width <= small.replay.place.min(small.replay.history.steps.len()) {
-            let mut candidate = small.replay.clone();
+        while from + width <= small.inner.place.min(small.inner.history.steps.len()) {
+            let mut candidate = small.inner.clone();
             candidate.history.steps.drain(from..from + width);
             candidate.place -= width;
-            if !adopt(small, candidate, test) {
+            if !small.adopt(candidate, test) {
                 from += width;
             }
         }
@@ -102,7 +67,7 @@ fn fewer_before(small: &mut Small, test: Test<'_>) {
     }
 }
 
-fn plainer(small: &mut Small, test: Test<'_>) {
+fn plainer(small: &mut Small<Replay>, test: Test<'_, Replay>) {
     let changes: [fn(&mut Replay); 7] = [
         |replay| replay.change = Change::Nothing,
         |replay| replay.place = 0,
@@ -120,13 +85,13 @@ fn plainer(small: &mut Small, test: Test<'_>) {
         },
     ];
     for change in changes {
-        let mut candidate = small.replay.clone();
+        let mut candidate = small.inner.clone();
         change(&mut candidate);
-        adopt(small, candidate, test);
+        small.adopt(candidate, test);
     }
 }
 
-impl Small {
+impl Small<Replay> {
     /// The replay in words: the steps, what was recorded of them, and the difference.
     pub fn story(&self) -> String {
         let Replay {
@@ -136,16 +101,16 @@ impl Small {
             place,
             on,
             seed,
-        } = &self.replay;
+        } = &self.inner;
         let mut story = format!(
             "a replay: recorded by {by:?}, change {change:?} in entry {}, on {on:?}, seed {seed}\n",
             place + 1
         );
         story += &told(history);
         let recording = self
-            .replay
+            .inner
             .entries()
-            .and_then(|entries| self.replay.recording(&entries));
+            .and_then(|entries| self.inner.recording(&entries));
         let bytes = recording.map_or_else(|_| Vec::new(), |recording| recording.bytes);
         let pieces = bytes.chunks(ENTRY_BYTES);
         let untold = pieces.len().saturating_sub(TOLD);
@@ -158,6 +123,6 @@ impl Small {
         if untold > 0 {
             story += &format!("and {untold} more\n");
         }
-        story + &format!("{}\n", self.difference)
+        story + &format!("{}\n", self.found)
     }
 }
