@@ -17,8 +17,9 @@ use crate::submission::Submission;
 /// [replay](Ledger::replay) on tables of the same sizes agrees with, and that leads to the same
 /// tables.
 ///
-/// Each entry is one write of [`ENTRY_BYTES`](crate::ENTRY_BYTES) and a flush. A host that wants an
-/// entry on the disk before it uses the answer lends a writer whose flush waits for the disk:
+/// Each entry is a `write_all` of [`ENTRY_BYTES`](crate::ENTRY_BYTES), which is one write or, if the
+/// writer takes fewer bytes at a time, several, and then a flush. A host that wants an entry on the
+/// disk before it uses the answer lends a writer whose flush waits for the disk:
 ///
 /// ```
 /// use std::fs::File;
@@ -97,8 +98,10 @@ impl<W: Write, T: AsRef<[u64]> + AsMut<[u64]>> Recorder<W, T> {
     ///
     /// # Errors
     ///
-    /// [`Unrecorded`] if the entry could not be written. The recorder submits nothing from then on,
-    /// as entries behind a missing one would not agree.
+    /// [`Unrecorded::Unwritten`] if the write or the flush of the entry failed. The submission is
+    /// not undone by that, and the entry may be there all the same. The recorder submits nothing
+    /// from then on ([`Unrecorded::Stopped`]), as entries behind one that is missing or cut short
+    /// would not agree.
     pub fn submit(&mut self, record: &Record) -> Result<Answer, Unrecorded> {
         if self.stopped {
             return Err(Unrecorded::Stopped);
@@ -142,16 +145,23 @@ impl<W, T> Recorder<W, T> {
 /// Why a [`Recorder`] hands out no answer.
 #[derive(Debug)]
 pub enum Unrecorded {
-    /// The entry could not be written, or not wholly. The submission was answered all the same: if
-    /// it settled, the ledger is one submission ahead of its recording. A host that does not use
-    /// the answer has the ledger of the recording again by a [replay](Ledger::replay) of it.
+    /// The write of the entry failed, or the flush after it. The entry may be in the recording
+    /// wholly, in part or not at all: the flush may have failed after all of it was written.
+    ///
+    /// The submission was answered all the same: if it settled, the ledger has it, and the recording
+    /// may not. A [replay](Ledger::replay) of the recording says which it is, by how many entries
+    /// there are and whether the last is cut short, and leaves the ledger of the recording.
+    ///
+    /// What is then submitted again must be the same bytes, and so the same nonce: if the entry is
+    /// there and settled, they are refused ([`Refusal::NonceSeen`]). Under another nonce an escrow,
+    /// say, would be opened a second time.
     Unwritten {
         /// The core's answer.
         answer: Answer,
-        /// Why it could not be written.
+        /// Why the write or the flush failed.
         error: io::Error,
     },
-    /// An earlier entry could not be written. Nothing was submitted.
+    /// The write or the flush of an earlier entry failed. Nothing was submitted.
     Stopped,
 }
 

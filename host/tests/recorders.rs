@@ -56,18 +56,23 @@ fn a_recorder_that_cannot_write_hands_out_no_answer_and_stops() {
     }
 }
 
+/// Keeps what it is given a few bytes at a time, and fails when it is to be flushed.
+#[derive(Default)]
+struct Unplugged(Vec<u8>);
+
+impl Write for Unplugged {
+    fn write(&mut self, bytes: &[u8]) -> io::Result<usize> {
+        self.0.write(&bytes[..bytes.len().min(50)])
+    }
+
+    fn flush(&mut self) -> io::Result<()> {
+        Err(io::Error::new(io::ErrorKind::Other, "unplugged"))
+    }
+}
+
 #[test]
 fn a_flush_that_fails_is_no_answer_either() {
-    struct Unplugged;
-    impl Write for Unplugged {
-        fn write(&mut self, bytes: &[u8]) -> io::Result<usize> {
-            Ok(bytes.len())
-        }
-        fn flush(&mut self) -> io::Result<()> {
-            Err(io::Error::new(io::ErrorKind::Other, "unplugged"))
-        }
-    }
-    let mut recorder = Recorder::start(fresh(), Unplugged).expect("right sizes");
+    let mut recorder = Recorder::start(fresh(), Unplugged::default()).expect("right sizes");
     let answer = recorder
         .settle(&grant(1))
         .map_err(|error| error.to_string());
@@ -77,6 +82,21 @@ fn a_flush_that_fails_is_no_answer_either() {
         recorder.settle(&grant(2)),
         Err(Unrecorded::Stopped)
     ));
+
+    // the entry is there all the same: the same nonce is refused, and another would settle again
+    let (_, Unplugged(mut log)) = recorder.into_parts();
+    let mut ledger = fresh();
+    let found = ledger.replay(&log);
+    assert_eq!(found, Ok(Replay::AllAgree { entries: 1 }));
+    let mut recorder = Recorder::resume(ledger, &mut log);
+    let again = recorder.settle(&grant(1)).expect("written");
+    assert_eq!(again, Answer::Refused(Refusal::NonceSeen));
+    assert_eq!(recorder.ledger().granted_total(), 5, "it settled once");
+    assert_eq!(
+        recorder.settle(&grant(2)).expect("written"),
+        Answer::Settled(0)
+    );
+    assert_eq!(recorder.ledger().granted_total(), 10, "and twice");
 }
 
 #[test]
