@@ -143,11 +143,15 @@ fn reached(replay: &Replay, found: &Verdict) -> Vec<String> {
             "recorded on a ledger in use",
         ),
     ];
-    let sizes = replay.history.sizes;
+    // other tables are not of the recording's sizes
+    let sizes = match replay.on {
+        On::Words | On::InUse => Some(replay.history.sizes),
+        On::OtherSizes | On::Length(..) => None,
+    };
     let replayed = [
         (replay.on == On::InUse, "on tables in use"),
-        (sizes == Sizes::PROGRAM, "on the program's sizes"),
-        (sizes == Sizes::LARGEST, "on the largest tables"),
+        (sizes == Some(Sizes::PROGRAM), "on the program's sizes"),
+        (sizes == Some(Sizes::LARGEST), "on the largest tables"),
         (replay.by == By::Second, "what the second program recorded"),
         (found.replayed > 255, "more entries than a byte can count"),
     ];
