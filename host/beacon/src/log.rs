@@ -2,6 +2,7 @@
 
 use std::fs::{File, OpenOptions};
 use std::io::{self, Write};
+use std::path::Path;
 
 use crate::problem::Problem;
 
@@ -20,14 +21,34 @@ impl<'a> Log<'a> {
         }))
     }
 
-    /// Waits until what was written is on the disk.
+    /// Waits until what was written is on the disk, and the new file's name in its folder.
     pub fn sync(&self) -> Result<(), Problem> {
         match &self.0 {
-            Some((path, file)) => file
-                .sync_all()
+            Some((path, file)) => synced(path, file)
                 .map_err(|error| Problem::io(format_args!("cannot write {path}"), &error)),
             None => Ok(()),
         }
+    }
+}
+
+fn synced(path: &str, file: &File) -> io::Result<()> {
+    file.sync_all()?;
+    sync_folder(path)
+}
+
+/// Waits until the file's name is on the disk, which is in its folder. A folder that may not be
+/// listed, or a file system that does not know how to wait for one, is no error: nothing more can be
+/// done there. A disk that fails is one.
+fn sync_folder(path: &str) -> io::Result<()> {
+    let folder = match Path::new(path).parent() {
+        Some(folder) if folder != Path::new("") => folder,
+        // a bare name
+        _ => Path::new("."),
+    };
+    let excused = [io::ErrorKind::PermissionDenied, io::ErrorKind::InvalidInput];
+    match File::open(folder).and_then(|folder| folder.sync_all()) {
+        Err(error) if excused.contains(&error.kind()) => Ok(()),
+        synced => synced,
     }
 }
 

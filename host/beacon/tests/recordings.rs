@@ -195,6 +195,18 @@ fn what_cannot_be_recorded_is_not_answered() {
 }
 
 #[test]
+fn a_recording_may_have_a_bare_name() {
+    let records = first_records("bare.bin");
+    let recording = file("bare.rec");
+    let (folder, name) = recording.rsplit_once('/').expect("a folder");
+    let mut run = beacon(&["run", &records, "--record", name]);
+    let ran = run.current_dir(folder).output().expect("the tool runs");
+    assert_eq!(text(&ran.stderr), "");
+    assert!(ran.status.success());
+    assert_eq!(finds(&["replay", &recording], 0), "all agree: 3 entries\n");
+}
+
+#[test]
 fn a_short_last_piece_is_answered_and_not_recorded() {
     let records = first_records("torn.bin");
     let mut bytes = fs::read(&records).expect("the records");
