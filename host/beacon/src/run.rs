@@ -14,7 +14,9 @@ use crate::show::{credits, entries, table};
 /// answers and no problem; a short last piece is one, and is answered as the rules say.
 ///
 /// With a recording, each entry is in its file before the next record is settled, and all are on the
-/// disk before an answer is printed. A short last piece cannot be an entry, and is not recorded.
+/// disk before an answer is printed. If an entry cannot be written nothing more is settled: the
+/// answers before it are printed, and the problem says how the file was left, also if it may not be
+/// on the disk. A short last piece cannot be an entry, and is not recorded.
 pub fn run(
     path: &str,
     sizes: Sizes,
@@ -39,11 +41,9 @@ pub fn run(
                 text += &line(ordinal, record, answer);
             }
             Err(unrecorded) => {
-                log.sync()?;
+                let state = log.break_off();
                 output.extend_from_slice(text.as_bytes());
-                return Err(Problem::Input(format!(
-                    "{unrecorded}; only the answers printed are recorded"
-                )));
+                return Err(Problem::Input(format!("{unrecorded}; {state}")));
             }
         }
     }

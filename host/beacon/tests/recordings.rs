@@ -184,14 +184,16 @@ fn what_cannot_be_recorded_is_not_answered() {
     assert_eq!(ran.status.code(), Some(1));
     let said = text(&ran.stderr);
     assert!(said.starts_with("beacon: the recording could not be written: "));
-    assert!(said.ends_with("; only the answers printed are recorded\n"));
+    let state = format!("; {recording} has the answers printed and nothing else\n");
+    assert!(said.ends_with(&state), "{said}");
 
+    // the entry that there was no room for left no piece behind
     let bytes = fs::read(&recording).expect("what was settled before");
     let entries = Entries::new(&bytes);
     assert!((1..100).contains(&entries.len()), "{} bytes", bytes.len());
+    assert_eq!(entries.cut(), b"");
     assert_eq!(text(&ran.stdout).lines().count(), entries.len());
-    let status = if entries.cut().is_empty() { 0 } else { 4 };
-    finds(&["replay", &recording], status);
+    finds(&["replay", &recording], 0);
 }
 
 #[test]
