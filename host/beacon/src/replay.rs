@@ -77,8 +77,10 @@ fn disagreement(
         0 => "\n",
         _ => " and one cut short\n",
     };
+    // a damaged byte may say so too
     if [recorded, answered].into_iter().any(is_full) {
-        text += "a table was full: the sizes of the tables must be those of the recording\n";
+        text += "one of the answers says that a table is full: the sizes of the tables may not be \
+                 those of the recording\n";
     }
     text
 }

@@ -143,7 +143,17 @@ fn sizes_are_those_of_the_options() {
     assert_eq!(finds(&words, 0), "all agree: 3 entries\n");
     let shown = finds(&["replay", &small], 3);
     assert!(shown.starts_with("entry 2 disagrees: "), "{shown}");
-    let hint = "a table was full: the sizes of the tables must be those of the recording\n";
+    let hint = "\none of the answers says that a table is full: the sizes of the tables may not \
+                be those of the recording\n";
+    assert!(shown.ends_with(hint), "{shown}");
+
+    // so do a byte of the recording that was damaged, and the core alone
+    let mut bytes = fs::read(first_recording("full")).expect("a recording");
+    bytes[RECORD_BYTES] = 40;
+    let shown = finds(&["replay", &written("full-said.rec", &bytes)], 3);
+    assert!(shown.ends_with(hint), "{shown}");
+    let recording = first_recording("full-found");
+    let shown = finds(&["replay", &recording, "--wallets", "1"], 3);
     assert!(shown.ends_with(hint), "{shown}");
 }
 
