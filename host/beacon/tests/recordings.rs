@@ -271,10 +271,23 @@ fn bad_commands_get_one_line() {
 }
 
 #[test]
+fn what_cannot_be_told_is_no_success() {
+    let recording = first_recording("untold");
+    let full = fs::OpenOptions::new().write(true).open("/dev/full");
+    let mut replay = beacon(&["replay", &recording]);
+    let replay = replay.stdout(full.expect("a full device"));
+    let replayed = replay.output().expect("the tool runs");
+    assert_eq!(replayed.status.code(), Some(1));
+    let said = text(&replayed.stderr);
+    assert!(said.starts_with("beacon: cannot write to standard output: "));
+}
+
+#[test]
 fn help_tells_the_exit_statuses() {
     let shown = succeeds(&["replay", "--help"]);
     for line in [
         "  0  all entries agree\n",
+        "  1  the recording cannot be read, or what was found not be written\n",
         "  3  an entry disagrees\n",
         "  4  the whole entries agree, and the last is cut short\n",
     ] {
