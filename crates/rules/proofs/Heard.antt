@@ -10,6 +10,7 @@ use native.Mathlib.Omega.{arith}
 use Rattle.rules.specs.Limits.{HEADER-LEN, SWEEP}
 use Rattle.rules.specs.Ledger.{Edition, Ledger, fresh}
 use Rattle.rules.specs.Submit.{submit}
+use Rattle.rules.specs.Recording.{Entry, asEntry}
 use Rattle.rules.specs.History.{Call, starts-afresh, submits, reads, writes, asks-status, finds-wallet, finds-escrow, finds-receipt, Event, Said, saidOf, submitted, begun, leaves, says, after, said, unbroken}
 use Rattle.rules.specs.Promises.{started, Refused}
 use Rattle.rules.proofs.Lengths.{lengths-stay}
@@ -25,6 +26,30 @@ pub said-more : (L : Ledger) (xs ys : List Call) → said L (xs ++ ys) ≡ said 
 said-more L [] ys = refl
 said-more L (x ∷ xs) ys =
     ap (λ (l : List Event). says L x ++ l) (said-more (leaves L x) xs ys) ∙ sym (append-assoc (says L x) (said (leaves L x) xs) (said (after L (x ∷ xs)) ys))
+
+-- what is submitted in calls, with the answers of the definitions
+abbrev pub answeredOn : Ledger → List Call → List Entry
+answeredOn L [] = []
+answeredOn L (starts-afresh ∷ cs) = answeredOn (started L) cs
+answeredOn L (submits b ∷ cs) = asEntry b (submit L b .number) (submit L b .word) ∷ answeredOn (submit L b .left) cs
+answeredOn L (reads b ∷ cs) = answeredOn L cs
+answeredOn L (writes s out ∷ cs) = answeredOn L cs
+answeredOn L (asks-status n ∷ cs) = answeredOn L cs
+answeredOn L (finds-wallet id ∷ cs) = answeredOn L cs
+answeredOn L (finds-escrow k ∷ cs) = answeredOn L cs
+answeredOn L (finds-receipt k ∷ cs) = answeredOn L cs
+
+pub answered-more : (L : Ledger) (xs ys : List Call) → answeredOn L (xs ++ ys) ≡ answeredOn L xs ++ answeredOn (after L xs) ys
+answered-more L [] ys = refl
+answered-more L (starts-afresh ∷ xs) ys = answered-more (started L) xs ys
+answered-more L (submits b ∷ xs) ys =
+    ap (λ (l : List Entry). asEntry b (submit L b .number) (submit L b .word) ∷ l) (answered-more (submit L b .left) xs ys)
+answered-more L (reads b ∷ xs) ys = answered-more L xs ys
+answered-more L (writes s out ∷ xs) ys = answered-more L xs ys
+answered-more L (asks-status n ∷ xs) ys = answered-more L xs ys
+answered-more L (finds-wallet id ∷ xs) ys = answered-more L xs ys
+answered-more L (finds-escrow k ∷ xs) ys = answered-more L xs ys
+answered-more L (finds-receipt k ∷ xs) ys = answered-more L xs ys
 
 -- ---- the first event, and the rest
 
@@ -133,17 +158,18 @@ retry-heard L h cs before between behind e f x whole zero no-sweep same-signer s
 
 -- ---- a start afresh that is heard first
 
-pub record Begins (L last : Ledger) (heard : List Event) : Type 0 where
+pub record Begins (L last : Ledger) (answers : List Entry) (heard : List Event) : Type 0 where
   pub number : fresh L .number ≡ 0
   pub rest : List Call
   pub after-rest : last ≡ after (started L) rest
   pub heard-rest : said (started L) rest ≡ heard
+  pub answered-rest : answers ≡ answeredOn (started L) rest
 
-pub begins : (L : Ledger) (cs : List Call) (heard : List Event) → said L cs ≡ (begun 0 ∷ heard) → Begins L (after L cs) heard
+pub begins : (L : Ledger) (cs : List Call) (heard : List Event) → said L cs ≡ (begun 0 ∷ heard) → Begins L (after L cs) (answeredOn L cs) heard
 begins L [] heard x = absurd (omega (arith, ap opening x))
 begins L (starts-afresh ∷ cs) heard x =
     let y : suc (suc (fresh L .number)) ≡ 2 = ap opening x in
-    record { number = omega (arith, y); rest = cs; after-rest = refl; heard-rest = ap behind-first x }
+    record { number = omega (arith, y); rest = cs; after-rest = refl; heard-rest = ap behind-first x; answered-rest = refl }
 begins L (submits b ∷ cs) heard x = absurd (omega (arith, ap opening x))
 begins L (reads b ∷ cs) heard x = begins L cs heard x
 begins L (writes s out ∷ cs) heard x = begins L cs heard x

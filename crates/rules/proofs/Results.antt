@@ -4,7 +4,7 @@ use mathlib.Core.Logic.{_≢_, _⊎_, inl, inr}
 use mathlib.Core.List.{List, []}
 use Prim.Native.Nat.{ℕ, _≤_}
 use lib.ListN.{length, List·getD-eq-default}
-use Rattle.rules.specs.Limits.{WALLET-LEN, RECEIPT-LEN, ESCROWS, RECEIPTS, MAX-ESCROWS, MAX-RECEIPTS}
+use Rattle.rules.specs.Limits.{WALLET-LEN, RECEIPT-LEN, ESCROWS, RECEIPTS, MAX-ESCROWS, MAX-RECEIPTS, NOT-REPLAYED}
 use Rattle.rules.specs.Table.{rowsIn}
 use Rattle.rules.specs.Ledger.{Edition, Ledger, Outcome, outcome, setHeader, freshHeader}
 use Rattle.rules.specs.Record.{readOf, nothing, Written}
@@ -13,7 +13,7 @@ use Rattle.rules.specs.Submit.{submit}
 use Rattle.rules.specs.Replay.{Gone}
 use Rattle.rules.specs.Status.{statuses}
 use Rattle.rules.specs.Promises.{IsFirst, Refused}
-use Rattle.rules.specs.Results.{Pair, Looked, wallet-number, escrow-place, escrow-row, receipt-place, receipt-row, Result, by-fresh, by-submit, by-replay, by-lookup, by-read, by-write, by-status, Finds-as, Meets, Part-of, Listed, Decided, DecidedBy}
+use Rattle.rules.specs.Results.{Pair, Looked, wallet-number, escrow-place, escrow-row, receipt-place, receipt-row, Result, by-fresh, by-submit, by-replay, by-lookup, by-read, by-write, by-status, Finds-as, Meets, Part-of, Finding, Listed, Decided, DecidedBy}
 use Rattle.rules.specs.declared.Read.{Read}
 use Rattle.rules.specs.declared.Verdict.{Verdict}
 use Rattle.rules.proofs.Places.{place-within}
@@ -76,7 +76,7 @@ pub listed : (e : Edition) (r : Result) → Meets e r → Listed e r
 listed e (by-fresh lent left number) m = listed-fresh e lent left number m
 listed e (by-submit lent left bytes number word) m = listed-submit lent left bytes number word (m .1)
 listed e (by-replay lent left recording verdict) m =
-    subst (λ (g : Gone Verdict). ((g .found .number ≡ 0) × (g .found .answered .number ≤ 40)) ⊎ ((g .found .number ≡ 1) × (g .left ≡ lent))) (sym (m .1))
+    subst (λ (g : Gone Verdict). Finding (g .found) ⊎ ((g .found .number ≡ 1) × (g .found .finding ≡ NOT-REPLAYED) × (g .left ≡ lent))) (sym (m .1))
     (replays lent recording .listed)
 listed e (by-lookup lent left looked) m = (m .0, part-of e lent looked (m .1))
 listed e (by-read bytes answer) m =

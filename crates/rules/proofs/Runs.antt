@@ -9,17 +9,18 @@ use Rattle.rules.specs.Limits.{HEADER-LEN, ESCROW-LEN}
 use Rattle.rules.specs.Ledger.{Edition, Ledger, Outcome, outcome, setHeader, fresh}
 use Rattle.rules.specs.Sound.{sound}
 use Rattle.rules.specs.Submit.{submit}
+use Rattle.rules.specs.Recording.{Entry, asEntry}
 use Rattle.rules.specs.Replay.{Gone, told, replay}
 use Rattle.rules.specs.History.{Call, starts-afresh, submits, Event, Said, saidOf, submitted, begun, after, said}
 use Rattle.rules.specs.Promises.{Lent, started, Adds-up}
 use Rattle.rules.specs.Results.{Pair, Looked, wallet-number, escrow-place, escrow-row, receipt-place, receipt-row, Result, by-fresh, by-submit, by-replay, by-lookup, by-read, by-write, by-status, Meets}
-use Rattle.rules.specs.Runs.{asked, setAsked, LentOf, leftBy, heardOf, Surface, Run, lastOf, heardBy, Calls-are-listed, Calls-decide, Runs-add-up, Runs-refuse-retries, Retries-change-nothing}
+use Rattle.rules.specs.Runs.{asked, setAsked, LentOf, leftBy, submittedBy, heardOf, Surface, Run, lastOf, heardBy, submittedIn, Calls-are-listed, Calls-decide, Runs-add-up, Runs-refuse-retries, Retries-change-nothing}
 use Rattle.rules.specs.declared.Verdict.{Verdict}
 use Rattle.rules.proofs.Demand12.{fresh-right}
 use Rattle.rules.proofs.Books.{the-books}
 use Rattle.rules.proofs.SoundAlways.{sound-always}
-use Rattle.rules.proofs.Heard.{opening, first-said, some-heard, after-more, said-more, retry-heard, Begins, begins}
-use Rattle.rules.proofs.Replays.{replay-calls, replays}
+use Rattle.rules.proofs.Heard.{opening, first-said, some-heard, after-more, said-more, answeredOn, answered-more, retry-heard, Begins, begins}
+use Rattle.rules.proofs.Replays.{replay-calls, replays, heard-as}
 use Rattle.rules.proofs.Results.{listed, decided-by}
 
 -- ---- one call
@@ -34,10 +35,12 @@ callsOf (by-read bytes answer) = []
 callsOf (by-write s out left number) = []
 callsOf (by-status number status) = []
 
--- what a call did by the definitions: it left what they leave, and what was heard of it is what they say
+-- what a call did by the definitions: it left what they leave, what was heard of it is what they say, and what was submitted in it was answered
+-- as they answer it
 pub record Did-as (r : Result) (L : Ledger) : Type 0 where
   pub left : leftBy r L ≡ after L (callsOf r)
   pub heard : heardOf r ≡ said L (callsOf r)
+  pub answered : submittedBy r ≡ answeredOn L (callsOf r)
 
 -- a lookup leaves its slices, and so the ledger, whichever table it was lent
 same-table : (looked : Looked) (L : Ledger) → setAsked looked (asked looked L) L ≡ L
@@ -56,17 +59,21 @@ same-ledger L looked e l =
 pub did-as : (e : Edition) (r : Result) (L : Ledger) → Meets e r → LentOf r L → Did-as r L
 did-as e (by-fresh lent left number) L m l =
     let o : outcome number 0 left ≡ fresh L = m .1 ∙ ap fresh l in
-    record { left = ap (λ (x : Outcome). x .left) o; heard = ap (λ (x : Outcome). begun (x .number) ∷ []) o }
+    record { left = ap (λ (x : Outcome). x .left) o; heard = ap (λ (x : Outcome). begun (x .number) ∷ []) o; answered = refl }
 did-as e (by-submit lent left bytes number word) L m l =
     let o : outcome number word left ≡ submit L bytes = m .1 ∙ ap (λ (K : Ledger). submit K bytes) l in
-    record { left = ap (λ (x : Outcome). x .left) o; heard = ap (λ (x : Outcome). submitted (saidOf bytes x) ∷ []) o }
+    record {
+      left = ap (λ (x : Outcome). x .left) o;
+      heard = ap (λ (x : Outcome). submitted (saidOf bytes x) ∷ []) o;
+      answered = ap (λ (x : Outcome). asEntry bytes (x .number) (x .word) ∷ []) o;
+    }
 did-as e (by-replay lent left recording verdict) L m l =
     subst (λ (g : Gone Verdict). Did-as (by-replay lent (g .left) recording (g .found)) L) (sym (m .1 ∙ ap (λ (K : Ledger). told (replay submit K recording)) l))
-    (record { left = replays L recording .left; heard = replays L recording .heard })
-did-as e (by-lookup lent left looked) L m l = record { left = same-ledger L looked (m .0) l; heard = refl }
-did-as e (by-read bytes answer) L m l = record { left = refl; heard = refl }
-did-as e (by-write s out left number) L m l = record { left = refl; heard = refl }
-did-as e (by-status number status) L m l = record { left = refl; heard = refl }
+    (let a = replays L recording in record { left = a .left; heard = heard-as L recording (replay submit L recording) a; answered = a .submitted })
+did-as e (by-lookup lent left looked) L m l = record { left = same-ledger L looked (m .0) l; heard = refl; answered = refl }
+did-as e (by-read bytes answer) L m l = record { left = refl; heard = refl; answered = refl }
+did-as e (by-write s out left number) L m l = record { left = refl; heard = refl; answered = refl }
+did-as e (by-status number status) L m l = record { left = refl; heard = refl; answered = refl }
 
 -- ---- the edition
 
@@ -111,7 +118,7 @@ module _ (S : Surface) where
   calls [] = []
   calls (d ∷ ds) = callsOf (S .shows d) ++ calls ds
 
-  -- what a run left and said is what the definitions say of the same calls
+  -- what a run left and said, and what was answered in it, is what the definitions say of the same calls
   pub run-after : (L : Ledger) (ds : List (S .Did)) → Run S L ds → lastOf S L ds ≡ after L (calls ds)
   run-after L [] m = refl
   run-after L (d ∷ ds) m =
@@ -124,6 +131,13 @@ module _ (S : Surface) where
       let x : Did-as (S .shows d) L = did-as ed (S .shows d) L (S .meets d) (m .0) in
       ap₂ (λ (y z : List Event). y ++ z) (x .heard)
       (run-heard (leftBy (S .shows d) L) ds (m .1) ∙ ap (λ (K : Ledger). said K (calls ds)) (x .left)) ∙ sym (said-more L (callsOf (S .shows d)) (calls ds))
+
+  pub run-answered : (L : Ledger) (ds : List (S .Did)) → Run S L ds → submittedIn S ds ≡ answeredOn L (calls ds)
+  run-answered L [] m = refl
+  run-answered L (d ∷ ds) m =
+      let x : Did-as (S .shows d) L = did-as ed (S .shows d) L (S .meets d) (m .0) in
+      ap₂ (λ (y z : List Entry). y ++ z) (x .answered)
+      (run-answered (leftBy (S .shows d) L) ds (m .1) ∙ ap (λ (K : Ledger). answeredOn K (calls ds)) (x .left)) ∙ sym (answered-more L (callsOf (S .shows d)) (calls ds))
 
   -- a run of which something is heard was lent tables of the edition
   pub run-edition : (L : Ledger) (ds : List (S .Did)) → Run S L ds → heardBy S ds ≢ [] → L .edition ≡ S .edition
@@ -148,7 +162,7 @@ module _ (S : Surface) where
 
   pub runs-add-up : Runs-add-up S
   runs-add-up L run heard m x =
-      let b : Begins L (after L (calls run)) heard = begins L (calls run) heard (sym (run-heard L run m) ∙ x) in
+      let b : Begins L (after L (calls run)) (answeredOn L (calls run)) heard = begins L (calls run) heard (sym (run-heard L run m) ∙ x) in
       let lent : Lent L = lent-of L (run-edition L run m (some-heard [] (begun 0) heard x)) (b .number) in
       let last : lastOf S L run ≡ after (started L) (b .rest) = run-after L run m ∙ b .after-rest in (
         subst₂ Adds-up (sym last) (ap (λ (l : List Event). begun 0 ∷ l) (b .heard-rest) ∙ sym x) (begun-adds-up _ _ (the-books L lent (b .rest))),

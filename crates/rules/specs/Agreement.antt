@@ -23,7 +23,7 @@ Same-answers = (K L : Ledger) → L .edition .escrow ≡ ESCROW-LEN → Same-wri
 abbrev pub Words-are-small : Type 0
 Words-are-small = (L : Ledger) → ESCROW-LEN ≤ L .edition .escrow → (b : List ℕ) → submit L b .word ≤ MAX-ESCROWS
 
--- entries that a recording can hold: records of 108 bytes, words of 64 bits
+-- enough of an entry to be read back: 108 bytes of record, a word of 64 bits
 pub record Whole (e : Entry) : Type 0 where
   pub bytes : length (e .bytes) ≡ RECORD-BYTES
   pub word : e .word < 2 ^ 64
@@ -35,11 +35,6 @@ AllWhole (e ∷ es) = Whole e × AllWhole es
 abbrev pub AllRecords : List (List ℕ) → Type 0
 AllRecords [] = Unit {0}
 AllRecords (b ∷ bs) = (length b ≡ RECORD-BYTES) × AllRecords bs
-
--- the records of entries
-abbrev pub records : List Entry → List (List ℕ)
-records [] = []
-records (e ∷ es) = e .bytes ∷ records es
 
 -- what is recorded is read back, whatever bytes follow
 abbrev pub Recorded-read : Type 0
@@ -66,7 +61,7 @@ own K bs = recordingOf (recordedFrom submit (started K) bs)
 abbrev pub left-by : Ledger → List (List ℕ) → Ledger
 left-by K bs = ledgerAfter submit (started K) bs
 
--- any two sets of tables of right and equal lengths, WHATEVER WORDS THEY HOLD, and any records of 108 bytes
+-- any two sets of tables of right and equal lengths, WHATEVER WORDS THEY HOLD, with escrow rows of eight words, and any records of 108 bytes
 pub record Two-sets (K L : Ledger) (bs : List (List ℕ)) : Type 0 where
   pub lent : Lent K
   pub escrow : K .edition .escrow ≡ ESCROW-LEN

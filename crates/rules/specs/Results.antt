@@ -11,7 +11,7 @@ use contract.Lifetimes.{Lfts}
 use borrow.Fn.Kind.{PK, RK}
 use borrow.Fn.Kinds.{Dens, Out, resT, endedOf}
 use denote.Triple.Clauses.{Lasts, AtExit, atExit}
-use Rattle.rules.specs.Limits.{WALLET-LEN, RECEIPT-LEN}
+use Rattle.rules.specs.Limits.{WALLET-LEN, RECEIPT-LEN, NOT-REPLAYED, ALL-AGREE, CUT-SHORT, DISAGREES}
 use Rattle.rules.specs.Table.{rowsIn}
 use Rattle.rules.specs.Ledger.{Edition, Ledger, outcome, setHeader, freshHeader, fresh}
 use Rattle.rules.specs.Record.{readOf, nothing, Written, writeOf}
@@ -107,12 +107,19 @@ Part-of e table (escrow-row number part) = (part ≡ []) ⊎ (length part ≡ e 
 Part-of e table (receipt-place number place) = place ≤ length table
 Part-of e table (receipt-row number part) = (part ≡ []) ⊎ (length part ≡ RECEIPT-LEN)
 
+-- one of the three findings, and what the core answered to an entry is on the list too
+pub record Finding (v : Verdict) : Type 0 where
+  pub number : v .number ≡ 0
+  pub finding : (v .finding ≡ ALL-AGREE) ⊎ ((v .finding ≡ CUT-SHORT) ⊎ (v .finding ≡ DISAGREES))
+  pub answered : v .answered .number ≤ 40
+  pub word : v .answered .number ≢ 0 → v .answered .word ≡ 0
+
 abbrev pub Listed : Edition → Result → Type 0
 Listed e (by-fresh lent left number) =
     ((number ≡ 0) × (left ≡ setHeader (freshHeader e) lent)) ⊎ ((number ≡ 1) × (left ≡ lent))
 Listed e (by-submit lent left bytes number word) = (number ≤ 40) × (number ≢ 0 → (word ≡ 0) × (left ≡ lent))
 Listed e (by-replay lent left recording verdict) =
-    ((verdict .number ≡ 0) × (verdict .answered .number ≤ 40)) ⊎ ((verdict .number ≡ 1) × (left ≡ lent))
+    Finding verdict ⊎ ((verdict .number ≡ 1) × (verdict .finding ≡ NOT-REPLAYED) × (left ≡ lent))
 Listed e (by-lookup lent left looked) = (left ≡ lent) × Part-of e (lent .table) looked
 Listed e (by-read bytes answer) = (answer .number ≡ 0) ⊎ ((answer .number ≡ 3) × (answer .submission ≡ nothing))
 Listed e (by-write s out left number) = (number ≡ 0) ⊎ ((number ≡ 3) × (left ≡ out))

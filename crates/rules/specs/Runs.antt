@@ -55,37 +55,45 @@ leftBy (by-read bytes answer) L = L
 leftBy (by-write s out left number) L = L
 leftBy (by-status number status) L = L
 
--- a submission and its answer
-abbrev pub saidTo : List ℕ → Answer → Said
-saidTo bytes x = record { submission = readOf bytes .submission; number = x .number; word = x .word }
+-- the first n entries of a recording as they were replayed: each with the answer recorded, but the last of them with that of the core if it
+-- disagrees
+abbrev pub replayedIn : Bool → Answer → ℕ → List Entry → List Entry
+replayedIn disagrees core zero es = []
+replayedIn disagrees core (suc n) [] = []
+replayedIn disagrees core (suc n) (e ∷ es) =
+    let x = cond (disagrees && eqb n 0) core (answer (e .number) (e .word)) in
+    asEntry (e .bytes) (x .number) (x .word) ∷ replayedIn disagrees core n es
 
--- the first n entries of a recording with their answers: those recorded, but for the last of them that of the core if it disagrees
-abbrev pub heardIn : Bool → Answer → ℕ → List Entry → List Event
-heardIn disagrees core zero es = []
-heardIn disagrees core (suc n) [] = []
-heardIn disagrees core (suc n) (e ∷ es) =
-    submitted (saidTo (e .bytes) (cond (disagrees && eqb n 0) core (answer (e .number) (e .word)))) ∷ heardIn disagrees core n es
+-- what was submitted in it, each time the bytes and their answer
+abbrev pub submittedBy : Result → List Entry
+submittedBy (by-fresh lent left number) = []
+submittedBy (by-submit lent left bytes number word) = asEntry bytes number word ∷ []
+submittedBy (by-replay lent left recording verdict) =
+    replayedIn (eqb (verdict .finding) DISAGREES) (verdict .answered) (verdict .replayed) (entriesOf recording)
+submittedBy (by-lookup lent left looked) = []
+submittedBy (by-read bytes answer) = []
+submittedBy (by-write s out left number) = []
+submittedBy (by-status number status) = []
+
+-- as events
+abbrev pub events : List Entry → List Event
+events [] = []
+events (e ∷ es) = submitted (record { submission = readOf (e .bytes) .submission; number = e .number; word = e .word }) ∷ events es
 
 -- what the caller can write down of it, without looking at a table. A replay is a start afresh, and then submissions.
 abbrev pub heardOf : Result → List Event
 heardOf (by-fresh lent left number) = begun number ∷ []
-heardOf (by-submit lent left bytes number word) = submitted (saidTo bytes (answer number word)) ∷ []
-heardOf (by-replay lent left recording verdict) =
-    begun (verdict .number) ∷ heardIn (eqb (verdict .finding) DISAGREES) (verdict .answered) (verdict .replayed) (entriesOf recording)
+heardOf (by-submit lent left bytes number word) = events (submittedBy (by-submit lent left bytes number word))
+heardOf (by-replay lent left recording verdict) = begun (verdict .number) ∷ events (submittedBy (by-replay lent left recording verdict))
 heardOf (by-lookup lent left looked) = []
 heardOf (by-read bytes answer) = []
 heardOf (by-write s out left number) = []
 heardOf (by-status number status) = []
 
--- what a host records of it: the record submitted, with its answer. Bytes of another length are refused and cannot be an entry.
-abbrev pub recordedOf : Result → List Entry
-recordedOf (by-fresh lent left number) = []
-recordedOf (by-submit lent left bytes number word) = cond (eqb (length bytes) RECORD-BYTES) (asEntry bytes number word ∷ []) []
-recordedOf (by-replay lent left recording verdict) = []
-recordedOf (by-lookup lent left looked) = []
-recordedOf (by-read bytes answer) = []
-recordedOf (by-write s out left number) = []
-recordedOf (by-status number status) = []
+-- what a host has recorded of that: the records of 108 bytes, with their answers. Bytes of another length are refused and cannot be an entry.
+abbrev pub recorded : List Entry → List Entry
+recorded [] = []
+recorded (e ∷ es) = cond (eqb (length (e .bytes)) RECORD-BYTES) (e ∷ recorded es) (recorded es)
 
 -- the public calls of one edition: what each did, what that showed, and that by its own contract it is what the definitions give
 pub record Surface : Type 1 where
@@ -108,9 +116,9 @@ module _ (S : Surface) where
   heardBy [] = []
   heardBy (d ∷ ds) = heardOf (S .shows d) ++ heardBy ds
 
-  abbrev pub recordedBy : List (S .Did) → List Entry
-  recordedBy [] = []
-  recordedBy (d ∷ ds) = recordedOf (S .shows d) ++ recordedBy ds
+  abbrev pub submittedIn : List (S .Did) → List Entry
+  submittedIn [] = []
+  submittedIn (d ∷ ds) = submittedBy (S .shows d) ++ submittedIn ds
 
   -- DEMAND 1
   abbrev pub Calls-are-listed : Type 0
@@ -146,12 +154,13 @@ module _ (S : Surface) where
       f .submission .signer ≡ e .submission .signer → f .submission .nonce ≡ e .submission .nonce →
       leftBy (S .shows again) (lastOf L run) ≡ lastOf L run
 
-  -- DOCUMENT 02, REQUEST 1. What was recorded in a run from a start afresh on always agrees: all of it, replayed on any tables of the same
-  -- lengths, whatever words they hold. What is left there has the same header and written rows as what the run left.
+  -- DOCUMENT 02, REQUEST 1. What was recorded in a run in which a start afresh answered 0 is the first that is heard, and no other is, always
+  -- agrees: all of it, replayed on any tables of the same lengths, whatever words they hold. What is left there has the same header and written
+  -- rows as what the run left. The start may be a replay: what it replayed, with the core's answers, is then where the recording begins.
   abbrev pub Runs-recordings-agree : Type 0
   Runs-recordings-agree =
-      (L : Ledger) (start : S .Did) (run : List (S .Did)) → Run L (start ∷ run) → heardOf (S .shows start) ≡ (begun 0 ∷ []) →
-      unbroken (heardBy run) ≡ true → S .edition .escrow ≡ ESCROW-LEN →
-      (again : S .Did) (lent left : Ledger) (v : Verdict) → S .shows again ≡ by-replay lent left (recordingOf (recordedBy run)) v →
+      (L : Ledger) (run : List (S .Did)) (heard : List Event) → Run L run → heardBy run ≡ (begun 0 ∷ heard) → unbroken heard ≡ true →
+      S .edition .escrow ≡ ESCROW-LEN →
+      (again : S .Did) (lent left : Ledger) (v : Verdict) → S .shows again ≡ by-replay lent left (recordingOf (recorded (submittedIn run))) v →
       Same-lengths lent L →
-      (v ≡ verdict 0 ALL-AGREE (length (recordedBy run)) (answer 0 0) (answer 0 0)) × Same-written left (lastOf L (start ∷ run))
+      (v ≡ verdict 0 ALL-AGREE (length (recorded (submittedIn run))) (answer 0 0) (answer 0 0)) × Same-written left (lastOf L run)
