@@ -226,7 +226,7 @@ cases =
     -- one byte of an entry, and all but one; a disagreement before the cut
     ∷ recorded 106 (entry P1 ∷ []) (MARK-0 ∷ []) (verdict 0 CUT-SHORT 1 (answer 0 0) (answer 0 0)) (has 7 50_000_000 0 ∷ [])
     ∷ recorded 107 (entry P1 ∷ []) (take 116 (entryBytes (entry P2))) (verdict 0 CUT-SHORT 1 (answer 0 0) (answer 0 0)) (has 7 50_000_000 0 ∷ [])
-    ∷ recorded 108 (entry-as P1 0 1 ∷ []) (MARK-0 ∷ []) (verdict 0 DISAGREES 1 (answer 0 1) (answer 0 0)) []
+    ∷ recorded 108 (entry-as P1 0 1 ∷ []) (MARK-0 ∷ []) (verdict 0 DISAGREES 1 (answer 0 1) (answer 0 0)) (has 7 50_000_000 0 ∷ [])
     -- a journal with a word too many
     ∷ record {
       label = 109;
@@ -238,4 +238,6 @@ cases =
         has = [];
       });
     }
+    -- the retry recorded as refused, with a word
+    ∷ recorded 110 (entry P1 ∷ entry P2 ∷ entry-as P3 11 1 ∷ []) [] (verdict 0 DISAGREES 3 (answer 11 1) (answer 11 0)) (has 7 30_000_000 20_000_000 ∷ [])
     ∷ []
