@@ -42,17 +42,17 @@ module _ (ed : Edition) (h w e r j : List ℕ) (s : Submission) (p : Settles (le
 
   answered : answerOf L read ≡ 0
   unfolding entryRefusals
-  answered = entry-pass L read (rw (p .lengths, p .is-sound)) ∙ p .passed
+  answered = entry-pass L read (rw (p .ready .lengths, p .ready .sound)) ∙ p .passed
 
   pub good : Good L
-  good = good-of L (p .sized .escrow) (p .is-sound)
+  good = good-of L (p .sized .escrow) (p .ready .sound)
 
   few : Few L
-  few = counts-few L (p .lengths) (sound-says L (p .is-sound) .header .within)
+  few = counts-few L (p .ready .lengths) (sound-says L (p .ready .sound) .header .within)
 
   pub small : Small h
   small = record {
-    whole = header-wide L (p .lengths) (p .sized .header);
+    whole = header-wide L (p .ready .lengths) (p .sized .header);
     wallets = few .wallets;
     escrows = few .escrows;
     receipts = few .receipts;

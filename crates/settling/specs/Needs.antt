@@ -3,17 +3,16 @@ use mathlib.Core.Path.{_≡_}
 use mathlib.Core.List.{List, _++_}
 use mathlib.Core.Bool.{true}
 use Prim.Native.Nat.{ℕ}
-use Rattle.rules.specs.Ledger.{Ledger, Sized, ledgerOf, lengthsRight}
+use Rattle.rules.specs.Ledger.{Ledger, Sized, ledgerOf}
 use Rattle.rules.specs.Record.{wellFormed}
-use Rattle.rules.specs.Sound.{sound}
+use Rattle.rules.specs.Sound.{Ready}
 use Rattle.rules.specs.Refusals.{first, envelopeRefusals, operationRefusals}
 use Rattle.rules.specs.declared.Edition.{Edition}
 use Rattle.rules.specs.declared.Submission.{Submission}
 
 pub record Settles (L : Ledger) (s : Submission) : Type 0 where
   pub sized : Sized (L .edition)
-  pub lengths : lengthsRight L ≡ true
-  pub is-sound : sound L ≡ true
+  pub ready : Ready L
   pub formed : wellFormed s ≡ true
   pub passed : first (envelopeRefusals L s ++ operationRefusals L s) ≡ 0
 

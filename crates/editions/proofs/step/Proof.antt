@@ -80,7 +80,7 @@ settle-requires c κs =
     let chosen = c .before .before .before .before .before in
     let passed = formed-stage (chosen .before) in
     let asked = start (read-stage passed) .pre in
-    record { sized = asked .0; lengths = asked .1 .lengths; is-sound = asked .1 .sound; formed = formed passed; passed = sym (chosen .before .refusal .ensures) ∙ chosen .if2 .left }
+    record { sized = asked .0; ready = asked .1; formed = formed passed; passed = sym (chosen .before .refusal .ensures) ∙ chosen .if2 .left }
 
 same-length-6 : tie.Need-same-length-6
 same-length-6 c = search needs
