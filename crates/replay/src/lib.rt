@@ -47,7 +47,7 @@ fn at_end(recording: &[u8], n: u64) -> Found
 }
 
 // Every whole entry in turn, on the tables as they are, until one disagrees. They are sound at the start and stay so from entry to entry, so this
-// is not tested at each: the test reads every table whole.
+// is not tested at each: the test reads every written row.
 fn replay_on(
     edition: Edition,
     header: &mut [u64],
