@@ -86,7 +86,7 @@ fn replay_command() -> Command {
         )
         .after_help(format!(
             "Exit status:\n  0  all entries agree\n  1  the recording cannot be read, or what was \
-             found not be written\n  2  the command makes no sense\n  {}  an entry disagrees\n  {}  \
+             found cannot be written\n  2  the command makes no sense\n  {}  an entry disagrees\n  {}  \
              the whole entries agree, and the last is cut short",
             replay::DISAGREES,
             replay::CUT_SHORT

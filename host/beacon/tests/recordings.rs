@@ -287,7 +287,7 @@ fn help_tells_the_exit_statuses() {
     let shown = succeeds(&["replay", "--help"]);
     for line in [
         "  0  all entries agree\n",
-        "  1  the recording cannot be read, or what was found not be written\n",
+        "  1  the recording cannot be read, or what was found cannot be written\n",
         "  3  an entry disagrees\n",
         "  4  the whole entries agree, and the last is cut short\n",
     ] {
