@@ -64,7 +64,7 @@ replayedIn disagrees core (suc n) (e ∷ es) =
     let x = cond (disagrees && eqb n 0) core (answer (e .number) (e .word)) in
     asEntry (e .bytes) (x .number) (x .word) ∷ replayedIn disagrees core n es
 
--- what was submitted in it, each time the bytes and their answer
+-- what was submitted in a call: each time the bytes, and their answer
 abbrev pub submittedBy : Result → List Entry
 submittedBy (by-fresh lent left number) = []
 submittedBy (by-submit lent left bytes number word) = asEntry bytes number word ∷ []
@@ -75,12 +75,12 @@ submittedBy (by-read bytes answer) = []
 submittedBy (by-write s out left number) = []
 submittedBy (by-status number status) = []
 
--- as events
+-- the same, as events
 abbrev pub events : List Entry → List Event
 events [] = []
 events (e ∷ es) = submitted (record { submission = readOf (e .bytes) .submission; number = e .number; word = e .word }) ∷ events es
 
--- what the caller can write down of it, without looking at a table. A replay is a start afresh, and then submissions.
+-- what the caller can write down of a call, without looking at a table. A replay is a start afresh, and then submissions.
 abbrev pub heardOf : Result → List Event
 heardOf (by-fresh lent left number) = begun number ∷ []
 heardOf (by-submit lent left bytes number word) = events (submittedBy (by-submit lent left bytes number word))
