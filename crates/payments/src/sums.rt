@@ -7,6 +7,7 @@ ghost use Rattle.rules.specs.Refusals.{countedOf};
 use rules::limits::DAY_MS;
 use rules::limits::ENTRY_AMOUNT;
 use rules::limits::JOURNAL_LEN;
+use rules::limits::OPEN;
 use rules::limits::OPERATION;
 use rules::limits::SETTLED_AT;
 use rules::limits::SIGNER;
@@ -19,7 +20,8 @@ pub fn exceeds(a: u64, b: u64, cap: u64) -> bool
     if cap < a { true } else { cap - a < b }
 }
 
-// The amounts of the signer's transfers, of the first n journal rows, that are not older than 24 hours at the clock.
+// The amounts of the signer's transfers and opens, of the first n journal rows, that are not older than 24 hours at the clock. The rows
+// alone decide: what an open held counts, whatever became of its escrow.
 pub fn counted(journal: &[u64], n: usize, signer: u64, clock: u64) -> u64
     requires { ⌜ Entries (now journal) n ⌝ }
     ensures { λ r. ⌜ r ≡ countedOf (now (journal .entry)) n signer clock ⌝ }
@@ -29,8 +31,9 @@ pub fn counted(journal: &[u64], n: usize, signer: u64, clock: u64) -> u64
     while i < n {
         let at = i * JOURNAL_LEN;
         let recent = clock <= journal[at + SETTLED_AT] + DAY_MS;
-        let counts = (journal[at + SIGNER] == signer)
-            & ((journal[at + OPERATION] == TRANSFER as u64) & recent);
+        let operation = journal[at + OPERATION];
+        let pays = (operation == TRANSFER as u64) | (operation == OPEN as u64);
+        let counts = (journal[at + SIGNER] == signer) & (pays & recent);
         sum += rows::choose(counts, journal[at + ENTRY_AMOUNT], 0);
         i += 1;
     }

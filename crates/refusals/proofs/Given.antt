@@ -1,15 +1,16 @@
 -- What the checks use of a sound ledger and a well-formed record, in plain numbers.
 use mathlib.Core.Path.{_≡_}
 use mathlib.Core.List.{List}
-use mathlib.Core.Bool.{true, not, _||_}
+use mathlib.Core.Bool.{true, not, _||_, or-false}
 use Prim.Native.Nat.{ℕ, _*_, _≤_, _<_}
 use lib.ListN.{getD, length}
 use lib.Dec.{eqb, leb}
 use borrow.Author.Tests.{leb-true}
 use Rattle.rules.specs.Limits.{WALLET-LEN, JOURNAL-LEN, MAX-WALLETS, MAX-ESCROWS, MAX-RECEIPTS, MAX-AMOUNT-MICRO, LAST-TIME-MS}
-use Rattle.rules.specs.Limits.{WALLETS, ESCROWS, RECEIPTS, ENTRIES, TRANSFER, OPEN, CAPS}
-use Rattle.rules.specs.Ledger.{Ledger, ledgerOf}
+use Rattle.rules.specs.Limits.{WALLETS, ESCROWS, RECEIPTS, ENTRIES, OPERATION, TRANSFER, OPEN, CAPS}
+use Rattle.rules.specs.Ledger.{Ledger, ledgerOf, entry}
 use Rattle.rules.specs.Sound.{between}
+use Rattle.rules.specs.Refusals.{oneOf, paying}
 use Rattle.rules.specs.declared.Edition.{Edition}
 use Rattle.rules.specs.declared.Submission.{Submission}
 use Rattle.rules.proofs.Bools.{and-snd}
@@ -50,9 +51,10 @@ module _ {ed : Edition} {h w e r j : List ℕ} {s : Submission} (given : Checkab
   pub journal-fit : getD h ENTRIES 0 * JOURNAL-LEN ≤ length j
   journal-fit = rows-fit JOURNAL-LEN (getD h ENTRIES 0) j (right .header .within .journal)
 
-  transfer-amount : (op amount : ℕ) → op ≡ TRANSFER → not (eqb op TRANSFER || eqb op OPEN) || between 1 MAX-AMOUNT-MICRO amount ≡ true → amount ≤ MAX-AMOUNT-MICRO
-  transfer-amount op amount o t =
-      let both : between 1 MAX-AMOUNT-MICRO amount ≡ true = rw o at t in
+  paid-amount : (op amount : ℕ) → oneOf paying op ≡ true → not (eqb op TRANSFER || eqb op OPEN) || between 1 MAX-AMOUNT-MICRO amount ≡ true → amount ≤ MAX-AMOUNT-MICRO
+  paid-amount op amount o t =
+      let pays : eqb op TRANSFER || eqb op OPEN ≡ true = rw (or-false (eqb op OPEN)) at o in
+      let both : between 1 MAX-AMOUNT-MICRO amount ≡ true = rw pays at t in
       leb-true amount MAX-AMOUNT-MICRO (and-snd (leb 1 amount) (leb amount MAX-AMOUNT-MICRO) both)
 
   pub entries : Entries j (getD h ENTRIES 0)
@@ -60,7 +62,7 @@ module _ {ed : Edition} {h w e r j : List ℕ} {s : Submission} (given : Checkab
     fit = journal-fit;
     few = few .journal;
     times = λ i l. entry-says L i (right .journal i l) .time;
-    amounts = λ i l o. transfer-amount _ _ o (entry-says L i (right .journal i l) .amount);
+    amounts = λ i l o. paid-amount (entry L i OPERATION) _ o (entry-says L i (right .journal i l) .amount);
   }
 
   pub op-low : 1 ≤ s .op

@@ -52,12 +52,16 @@ seenIn journal n signer nonce = some n (λ i. eqb (word journal JOURNAL-LEN i SI
 unfoldable pub seen : Ledger → ℕ → ℕ → Bool
 seen L signer nonce = seenIn (L .journal) (entryCount L) signer nonce
 
--- journal row i is the signer's transfer, and not older than 24 hours
+-- the operations that the caps limit, and the daily cap counts
+abbrev pub paying : List ℕ
+paying = TRANSFER ∷ OPEN ∷ []
+
+-- journal row i is the signer's transfer or open, told by its own words alone, and not older than 24 hours
 abbrev pub counts : List ℕ → ℕ → ℕ → ℕ → Bool
 counts journal signer now i =
     all
     (eqb (word journal JOURNAL-LEN i SIGNER) signer
-    ∷ eqb (word journal JOURNAL-LEN i OPERATION) TRANSFER
+    ∷ oneOf paying (word journal JOURNAL-LEN i OPERATION)
     ∷ leb now (word journal JOURNAL-LEN i SETTLED-AT + DAY-MS)
     ∷ [])
 
@@ -89,9 +93,6 @@ linked s b = on s (CLAIM ∷ []) (not (eqb (s .link) 0) && b)
 
 abbrev pub closing : List ℕ
 closing = RELEASE ∷ REFUND ∷ []
-
-abbrev pub paying : List ℕ
-paying = TRANSFER ∷ OPEN ∷ []
 
 -- the lent tables and the record
 unfoldable pub entryRefusals : Ledger → Read → List Refusal

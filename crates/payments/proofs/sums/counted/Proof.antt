@@ -35,6 +35,21 @@ shared-slice-read-recent c = search needs
 add-recent-2 : tie.Need-add-recent-2 Inv-loop μ-loop
 add-recent-2 c = omega (arith, c .before .before .before .before .pre .times (c .before .before .loop .i) (search needs))
 
+add-operation : tie.Need-add-operation Inv-loop μ-loop
+add-operation c = search needs
+
+mul-operation : tie.Need-mul-operation Inv-loop μ-loop
+mul-operation c = search needs
+
+shared-slice-read-operation : tie.Need-shared-slice-read-operation Inv-loop μ-loop
+shared-slice-read-operation c = search needs
+
+cast-pays : tie.Need-cast-pays Inv-loop μ-loop
+cast-pays c = search needs
+
+cast-pays-2 : tie.Need-cast-pays-2 Inv-loop μ-loop
+cast-pays-2 c = search needs
+
 add-counts : tie.Need-add-counts Inv-loop μ-loop
 add-counts c = search needs
 
@@ -43,18 +58,6 @@ mul-counts c = search needs
 
 shared-slice-read-counts : tie.Need-shared-slice-read-counts Inv-loop μ-loop
 shared-slice-read-counts c = search needs
-
-add-counts-2 : tie.Need-add-counts-2 Inv-loop μ-loop
-add-counts-2 c = search needs
-
-mul-counts-2 : tie.Need-mul-counts-2 Inv-loop μ-loop
-mul-counts-2 c = search needs
-
-shared-slice-read-counts-2 : tie.Need-shared-slice-read-counts-2 Inv-loop μ-loop
-shared-slice-read-counts-2 c = search needs
-
-cast-counts : tie.Need-cast-counts Inv-loop μ-loop
-cast-counts c = search needs
 
 add-choose : tie.Need-add-choose Inv-loop μ-loop
 add-choose c = search needs
@@ -99,13 +102,14 @@ counted-spec =
     mul-recent
     shared-slice-read-recent
     add-recent-2
+    add-operation
+    mul-operation
+    shared-slice-read-operation
+    cast-pays
+    cast-pays-2
     add-counts
     mul-counts
     shared-slice-read-counts
-    add-counts-2
-    mul-counts-2
-    shared-slice-read-counts-2
-    cast-counts
     add-choose
     mul-choose
     shared-slice-read-choose
