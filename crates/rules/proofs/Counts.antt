@@ -24,6 +24,11 @@ unfolding sum every some
 sum-zero zero f e = refl
 sum-zero (suc n) f e = omega (arith, sum-zero n f (λ i h. e i (omega arith)), e n (omega arith))
 
+pub sum-both : (n : ℕ) (f g h : ℕ → ℕ) → ((i : ℕ) → i < n → f i ≡ g i + h i) → sum n f ≡ sum n g + sum n h
+unfolding sum
+sum-both zero f g h e = refl
+sum-both (suc n) f g h e = omega (arith, sum-both n f g h (λ i l. e i (omega arith)), e n (omega arith))
+
 -- two that differ at k only
 pub sum-change : (n k : ℕ) (f g : ℕ → ℕ) → k < n → ((i : ℕ) → i < n → i ≢ k → f i ≡ g i) → sum n f + g k ≡ sum n g + f k
 unfolding sum every some

@@ -31,6 +31,7 @@ pub mod Demand12
 pub mod Keeps
 pub mod Lengths
 pub mod ReplayGuard
+pub mod Cap
 pub mod Turns
 pub mod SweepPlan
 pub mod Passed

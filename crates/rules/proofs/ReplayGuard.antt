@@ -39,7 +39,7 @@ seen-kept {L} {K} k g n =
     ap₂ (λ (m : ℕ) (j : List ℕ). some m (λ i. eqb (word j JOURNAL-LEN i SIGNER) g && eqb (word j JOURNAL-LEN i NONCE) n)) (sym (k .count)) (sym (k .rows))
 
 module _ (L : Ledger) (vs : List ℕ) (wide : ENTRIES < length (L .header)) where
-  new-count : entryCount (newEntry vs L) ≡ entryCount L + 1
+  pub new-count : entryCount (newEntry vs L) ≡ entryCount L + 1
   unfolding newEntry putHead
   new-count = getD-set-same (L .header) ENTRIES (entryCount L + 1) 0 wide
 

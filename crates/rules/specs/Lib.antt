@@ -17,6 +17,7 @@ pub mod Due
 pub mod Promises
 pub mod Same
 pub mod Agreement
+pub mod Cap
 pub mod Results
 pub mod Runs
 pub mod Cases
