@@ -7,7 +7,7 @@ use Prim.Native.Nat.{ℕ, _+_, _-_}
 use lib.ListN.{replicate, take}
 use lib.Dec.{eqb}
 use Rattle.rules.specs.Limits.{MAX-AMOUNT-MICRO, MAX-HOLD-MS, BALANCE, LOCKED, RELEASE-CODE, MARK-0, NOT-REPLAYED, ALL-AGREE, CUT-SHORT, DISAGREES}
-use Rattle.rules.specs.Limits.{GRANT, TRANSFER, OPEN, RELEASE, CLAIM, ACCEPT, SWEEP}
+use Rattle.rules.specs.Limits.{GRANT, TRANSFER, OPEN, RELEASE, REFUND, CLAIM, ACCEPT, SWEEP, CAPS}
 use Rattle.rules.specs.Ledger.{Ledger, ledger, setJournal, fresh, walletOf, receipt}
 use Rattle.rules.specs.Record.{encode}
 use Rattle.rules.specs.Submit.{submit}
@@ -188,6 +188,34 @@ all-agree n = verdict 0 ALL-AGREE n (answer 0 0) (answer 0 0)
 abbrev P3 : Step
 P3 = leaves opening 11 0 (has 7 30_000_000 20_000_000 ∷ [])
 
+-- ---- Request 2: the daily cap
+
+-- 7 may pay 50,000,000 at once and 20,000,000 a day: an admin's word
+abbrev capped : ℕ → Step
+capped admin = step (sub CAPS 0b0011 1_000 admin 2 1_000 2_000 7 50_000_000 0 20_000_000) 0 0
+
+-- a grant to 8 by an admin, at 1,000
+abbrev grants-8 : ℕ → Step
+grants-8 admin = step (sub GRANT 0b0011 1_000 admin 3 1_000 2_000 8 20_000_000 0 0) 0 0
+
+-- a hold at 1,000 until 501,000
+abbrev holds-by : ℕ → ℕ → ℕ → ℕ → Submission
+holds-by signer nonce target amount = sub OPEN 0b0001 1_000 signer nonce 1_000 2_000 target amount 501_000 0
+
+-- the moments 86,400,000 and 86,400,001 ms after 1,000
+abbrev DAY-ENDS-MS : ℕ
+DAY-ENDS-MS = 86_401_000
+
+abbrev DAY-OVER-MS : ℕ
+DAY-OVER-MS = 86_401_001
+
+-- 7 pays 1 more to 8
+abbrev transfers-1 : ℕ → Submission
+transfers-1 now = sub TRANSFER 0b0001 now 7 9 now (now + 1_000) 8 1 0 0
+
+abbrev opens-1 : ℕ → Submission
+opens-1 now = sub OPEN 0b0001 now 7 9 now (now + 1_000) 8 1 (now + 1) 0
+
 -- THE TABLE
 abbrev pub cases : List Case
 cases =
@@ -240,4 +268,28 @@ cases =
     }
     -- the retry recorded as refused, with a word
     ∷ recorded 110 (entry P1 ∷ entry P2 ∷ entry-as P3 11 1 ∷ []) [] (verdict 0 DISAGREES 3 (answer 11 1) (answer 11 0)) (has 7 30_000_000 20_000_000 ∷ [])
+    -- a hold counts for 24 hours and not a millisecond longer: a transfer after it, and a hold after it
+    ∷ case 201
+    (P1 ∷ capped 1 ∷ P2 ∷ step (transfers-1 DAY-ENDS-MS) 19 0
+    ∷ leaves (transfers-1 DAY-OVER-MS) 0 0 (has 7 29_999_999 20_000_000 ∷ has 8 1 0 ∷ []) ∷ [])
+    ∷ case 202
+    (P1 ∷ capped 1 ∷ P2 ∷ step (opens-1 DAY-ENDS-MS) 19 0
+    ∷ leaves (opens-1 DAY-OVER-MS) 0 2 (has 7 29_999_999 20_000_001 ∷ []) ∷ [])
+    -- three holds, refunded, released and expired in between, still count
+    ∷ case 203
+    (P1 ∷ capped 1 ∷ step (holds-by 7 3 8 8_000_000) 0 1 ∷ step (holds-by 7 4 8 7_000_000) 0 2 ∷ step (holds-by 7 5 8 5_000_000) 0 3
+    ∷ step (sub REFUND 0b0001 2_000 7 6 2_000 3_000 1 0 0 0) 0 0
+    ∷ step (sub RELEASE 0b0001 2_000 7 7 2_000 3_000 2 0 0 0) 0 0
+    ∷ leaves (sub SWEEP 0 501_001 0 0 0 0 0 1 0 0) 0 1 (has 7 43_000_000 0 ∷ has 8 7_000_000 0 ∷ [])
+    ∷ step (transfers-1 DAY-ENDS-MS) 19 0 ∷ step (transfers-1 DAY-OVER-MS) 0 0 ∷ [])
+    -- a transfer counts as before
+    ∷ case 204
+    (P1 ∷ capped 1 ∷ step (transfers 20_000_000) 0 0 ∷ step (transfers-1 DAY-ENDS-MS) 19 0 ∷ step (opens-1 DAY-ENDS-MS) 19 0
+    ∷ step (transfers-1 DAY-OVER-MS) 0 0 ∷ [])
+    -- another signer's holds do not
+    ∷ case 205
+    (P1 ∷ capped 1 ∷ grants-8 1 ∷ step (holds-by 8 1 7 20_000_000) 0 1 ∷ step (transfers 20_000_000) 0 0 ∷ step (transfers-1 DAY-ENDS-MS) 19 0 ∷ [])
+    -- nor do the signer's own rows of other operations, though caps and a grant have an amount; a hold and a transfer may come to just the cap
+    ∷ case 206
+    (P1 ∷ capped 7 ∷ grants-8 7 ∷ step (holds-by 7 4 8 12_000_000) 0 1 ∷ step (transfers 8_000_001) 19 0 ∷ step (transfers 8_000_000) 0 0 ∷ [])
     ∷ []
