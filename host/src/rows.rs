@@ -60,7 +60,7 @@ row! {
     frozen_word = 3;
     /// The most that one payment may be.
     per_transaction_cap = 4;
-    /// The most that a day's transfers may be.
+    /// The most that the transfers and opens of 24 hours may come to.
     daily_cap = 5;
 }
 

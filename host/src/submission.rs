@@ -193,8 +193,8 @@ impl Submission {
         submission
     }
 
-    /// Sets the caps of the wallet `target`: for one payment, and for a day's transfers. Admins
-    /// only.
+    /// Sets the caps of the wallet `target`: for one payment, and for the transfers and opens of
+    /// 24 hours together. Admins only.
     pub fn caps(envelope: Envelope, target: u64, per_transaction: u64, daily: u64) -> Submission {
         Submission {
             target,

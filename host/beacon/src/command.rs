@@ -218,7 +218,13 @@ fn operation_command(operation: Operation) -> Command {
             .arg(admin)
             .arg(number("target", "The wallet"))
             .arg(number("amount", "The most that one payment may be"))
-            .arg(number("link", "The most that a day's transfers may be").alias("daily")),
+            .arg(
+                number(
+                    "link",
+                    "The most that a day's transfers and opens may come to",
+                )
+                .alias("daily"),
+            ),
         _ => command,
     }
 }
