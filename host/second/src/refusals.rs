@@ -180,13 +180,15 @@ fn amount_out_of_range(c: &Case<'_>) -> bool {
 }
 
 /// "Counted rows for 19: the signer's journal rows of operation 2 with settled
-/// at + 86,400,000 ≥ now".
+/// at + 86,400,000 ≥ now", as changed by request 2/13: "Counted rows are from
+/// now on the signer's rows of operations 2 and 3. A later refund does not give
+/// room back." So the journal alone decides, and no escrow is looked at.
 fn counted_amounts(c: &Case<'_>) -> u128 {
     let entries = c.ledger.journal.rows.iter();
     entries
         .filter(|entry| {
             entry.signer == c.s.signer
-                && entry.operation == 2
+                && matches!(entry.operation, 2 | 3)
                 && u128::from(entry.settled_at) + 86_400_000 >= u128::from(c.s.now)
         })
         .map(|entry| u128::from(entry.amount))

@@ -129,18 +129,21 @@ fn amounts_and_parties() {
 #[test]
 fn balances_and_caps() {
     let mut w = world();
-    w.settles(caps(NOW, 9, 7, 100, 250));
+    // The world's open of 1,000 is counted.
+    w.settles(caps(NOW, 9, 7, 100, 1_250));
     w.refuses(transfer(NOW, 7, 9, 8, 49_001), 17);
     w.refuses(transfer(NOW, 7, 9, 8, 49_000), 18);
     w.settles(transfer(NOW, 7, 10, 8, 100));
     w.settles(transfer(NOW + 1, 7, 11, 8, 100));
     w.refuses(transfer(NOW + 2, 7, 12, 8, 51), 19);
     w.refuses(open(NOW + 2, 7, 12, 8, 51, NOW), 19);
-    // An open isn't counted.
     w.settles(open(NOW + 2, 7, 12, 8, 50, NOW + 3));
-    w.settles(transfer(NOW + 2, 7, 13, 8, 50));
+    w.refuses(open(NOW + 2, 7, 13, 8, 1, NOW), 19);
+    w.refuses(transfer(NOW + 2, 7, 13, 8, 1), 19);
     let day = 86_400_000;
     w.refuses(transfer(NOW + day, 7, 14, 8, 1), 19);
+    // What was paid at NOW isn't counted any longer; 100 and 50 are.
+    w.settles(caps(NOW + day + 1, 10, 7, 100, 250));
     w.settles(transfer(NOW + day + 1, 7, 14, 8, 100));
     w.refuses(transfer(NOW + day + 1, 7, 15, 8, 1), 19);
 }
