@@ -2,10 +2,9 @@
 
 use milebeacon::Submission;
 
-use crate::step::{Step, LAST_TIME, MOST_AMOUNT, MOST_GRANTED};
+use crate::step::{Step, DAY_MS, LAST_TIME, MOST_AMOUNT, MOST_GRANTED};
 use crate::view::View;
 
-const DAY_MS: u64 = 86_400_000;
 const WEEK_MS: u64 = 604_800_000;
 
 impl Step {
@@ -24,6 +23,12 @@ impl Step {
             .map_or(clock, |row| row.deadline);
         let entry = view.entry(self.pick()).map_or(clock, |row| row.settled_at);
         let later = |moment: u64| if moment > LAST_TIME { clock } else { moment };
+        // a hold of whoever signs if this step is a payment
+        let after_hold = |span: u64| {
+            let payer = self.signer(view, view.any_wallet(self.pick()).unwrap_or(7));
+            let hold = view.hold(payer, self.pick() / 3);
+            hold.map_or(clock, |settled_at| later(settled_at + span).max(clock))
+        };
         match self.tick {
             1 => later(clock + 1),
             2 => later(clock + 1_000),
@@ -41,6 +46,8 @@ impl Step {
             14 => later(entry + DAY_MS + 1).max(clock),
             15 if self.pick % 64 == 0 => LAST_TIME,
             16 if self.pick % 4 == 0 => LAST_TIME + 1,
+            17 => after_hold(DAY_MS),
+            18 => after_hold(DAY_MS + 1),
             _ => clock,
         }
     }
@@ -144,7 +151,7 @@ impl Step {
 
     pub(crate) fn payment(&self, view: &View<'_>, signer: u64, now: u64) -> u64 {
         let (balance, cap, daily) = view.means(signer).unwrap_or((50, 100, 200));
-        let left = daily.saturating_sub(view.transferred(signer, now));
+        let left = daily.saturating_sub(view.counted(signer, now));
         match self.amount {
             1 => 0,
             2 => balance,

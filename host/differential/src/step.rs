@@ -14,6 +14,8 @@ use crate::view::View;
 
 /// The last time that the rules allow.
 pub const LAST_TIME: u64 = (1 << 48) - 1;
+/// For so long a payment counts towards the daily cap.
+pub const DAY_MS: u64 = 86_400_000;
 /// The largest amount.
 pub const MOST_AMOUNT: u64 = 1_000_000_000_000_000;
 /// The largest granted total.
@@ -63,7 +65,7 @@ impl Step {
         } else {
             dice.pick(&often)
         };
-        Step::of(op, dice, wild)
+        Step::of(op, dice, wild).at_the_end_of_a_hold(dice)
     }
 
     /// A step by chance that settles more often than not: few knobs are not plain, and the clock
@@ -87,7 +89,18 @@ impl Step {
         if op == 7 && dice.once_in(6) {
             step.flags = 5;
         }
-        step
+        step.at_the_end_of_a_hold(dice)
+    }
+
+    /// One payment in twelve comes when a hold of its signer's counts for the last time or has just
+    /// ceased to, and asks for all that is left of the daily cap or for one more.
+    fn at_the_end_of_a_hold(mut self, dice: &mut Dice) -> Step {
+        if matches!(self.op, 1 | 2) && dice.once_in(12) {
+            let (tick, amount) = dice.pick(&[(17, 6), (17, 7), (18, 6), (18, 6)]);
+            self.tick = tick;
+            self.amount = amount;
+        }
+        self
     }
 
     /// A step of this operation by chance.

@@ -2,6 +2,7 @@
 
 use milebeacon::{EscrowState, Ledger, ReceiptState};
 
+use crate::step::DAY_MS;
 use crate::twin::World;
 
 /// A ledger to be read only. Wallets are found here by a search of its own, not by the core's.
@@ -104,13 +105,27 @@ impl<'a> View<'a> {
             .any(|wallet| wallet.id() == id && wallet.is_frozen())
     }
 
-    /// What the signer's transfers of the last day come to.
-    pub fn transferred(&self, signer: u64, now: u64) -> u64 {
+    /// What counts towards the signer's daily cap: the transfers and opens of the last day, whatever
+    /// has become of the escrows.
+    pub fn counted(&self, signer: u64, now: u64) -> u64 {
         self.ledger
             .journal()
-            .filter(|row| row.signer() == signer && row.operation_word() == 2)
-            .filter(|row| row.settled_at().saturating_add(86_400_000) >= now)
+            .filter(|row| row.signer() == signer && matches!(row.operation_word(), 2 | 3))
+            .filter(|row| row.settled_at().saturating_add(DAY_MS) >= now)
             .fold(0, |sum, row| row.amount().saturating_add(sum))
+    }
+
+    /// When one of the signer's opens settled, of those that count or have just ceased to: for the
+    /// others the end of their day has passed.
+    pub fn hold(&self, signer: u64, pick: u64) -> Option<u64> {
+        let moments: Vec<u64> = self
+            .ledger
+            .journal()
+            .filter(|row| row.signer() == signer && row.operation_word() == 3)
+            .map(|row| seen(row.settled_at()))
+            .filter(|moment| moment + DAY_MS + 1 >= self.clock())
+            .collect();
+        around(&moments, pick)
     }
 
     pub fn escrow(&self, open: bool, pick: u64) -> Option<EscrowSeen> {

@@ -23,17 +23,24 @@ fn answered(history: &History, number: u64) -> Option<Found> {
     None
 }
 
-/// A long history in which the answer is given, and the same made short.
+/// How many histories are made short. One may come to rest at a few steps more than it takes.
+const TRIED: usize = 8;
+
+/// Of long histories in which the answer is given, the one that becomes the shortest, and its length
+/// before.
 fn smallest(number: u64) -> (usize, History) {
     let test = |history: &History| answered(history, number);
-    for seed in 0.. {
-        let history = History::of(Begin::Fresh, Sizes::PROGRAM, &mut Dice::new(seed), 300);
-        if let Some(found) = test(&history) {
-            let length = found.step + 1;
-            return (length, shrink_by(&history, found, &test).inner);
-        }
-    }
-    unreachable!("there is always another seed")
+    let long = (0..).map(|seed| {
+        let dice = &mut Dice::new(seed);
+        History::of(Begin::Fresh, Sizes::PROGRAM, dice, 300)
+    });
+    long.filter_map(|history| {
+        let found = test(&history)?;
+        Some((found.step + 1, shrink_by(&history, found, &test).inner))
+    })
+    .take(TRIED)
+    .min_by_key(|(_, small)| small.steps.len())
+    .expect("there is always another seed")
 }
 
 #[test]
