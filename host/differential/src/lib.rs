@@ -12,13 +12,14 @@
 //! - [`replay`] records what a history submits and how it is answered, changes the recording, and
 //! replays it on other tables.
 //! - [`plan`] puts these together into a run of a given length from a given seed, of one [`mix`] or
-//! the other.
+//! the other. [`tally`] and [`daily`] say what the run came to.
 
 #![forbid(unsafe_code)]
 #![warn(missing_docs)]
 
 pub mod clauses;
 pub mod codec;
+pub mod daily;
 pub mod damage;
 pub mod dice;
 pub mod history;

@@ -37,7 +37,9 @@ fn main() -> ExitCode {
             for goal in &goals {
                 println!("{goal}");
             }
-            let all = tally.missing().is_empty() && tally.replays.missing().is_empty();
+            let all = tally.missing().is_empty()
+                && tally.daily.missing().is_empty()
+                && tally.replays.missing().is_empty();
             let reached = all && goals.iter().all(Goal::is_reached);
             ExitCode::from(u8::from(!reached || !forbidden.is_empty()))
         }

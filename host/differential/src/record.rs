@@ -17,6 +17,15 @@ pub fn encode(s: &Submission) -> Record {
     record
 }
 
+/// The word at this place of a record, counted from 0; 0 if the record ends before.
+pub fn word(record: &[u8], place: usize) -> u64 {
+    let bytes = record
+        .get(4..)
+        .and_then(|words| words.chunks_exact(8).nth(place));
+    let bytes = bytes.and_then(|bytes| bytes.try_into().ok());
+    bytes.map_or(0, u64::from_le_bytes)
+}
+
 /// The record with damage of one of sixteen kinds; kind 0 is none.
 pub fn damaged(mut bytes: Vec<u8>, kind: u8, dice: &mut Dice) -> Vec<u8> {
     let length = bytes.len().max(1);

@@ -2,6 +2,7 @@
 
 use std::fmt;
 
+use crate::daily::Daily;
 use crate::replay::counts::Replays;
 
 /// The highest answer number.
@@ -18,6 +19,8 @@ pub struct Tally {
     pub on_largest: u64,
     /// Other calls that were compared: starts, reads, writes, lookups, statuses.
     pub other_calls: u64,
+    /// Payments that a hold decided at the daily cap.
+    pub daily: Daily,
     /// What replays of recordings came to. The entries replayed are not among the submissions.
     pub replays: Replays,
 }
@@ -29,6 +32,7 @@ impl Default for Tally {
             submissions: 0,
             on_largest: 0,
             other_calls: 0,
+            daily: Daily::default(),
             replays: Replays::default(),
         }
     }
@@ -109,6 +113,7 @@ impl Tally {
         self.submissions += other.submissions;
         self.on_largest += other.on_largest;
         self.other_calls += other.other_calls;
+        self.daily.add(&other.daily);
         self.replays.add(&other.replays);
     }
 }
@@ -148,6 +153,7 @@ impl fmt::Display for Tally {
         } else {
             writeln!(f, "not reached (operation, answer): {missing:?}")?;
         }
+        writeln!(f, "{}", self.daily)?;
         write!(f, "{}", self.replays)
     }
 }

@@ -6,6 +6,7 @@ use std::panic::{catch_unwind, AssertUnwindSafe};
 use milebeacon::ffi::Verdict;
 use milebeacon::{ffi, Sizes, Tables};
 
+use crate::daily;
 use crate::replay::verdict;
 use crate::tally::Tally;
 
@@ -135,10 +136,13 @@ impl Twin {
         if lent_record != record {
             return Err(Difference("the core has changed the record".to_owned()));
         }
+        // the second program's tables are still as they were before the call
+        let decided = daily::decided(&self.second, record, answer.number);
         let second = guarded(|| second::submit(&mut lent(&mut self.second), record))?;
         let answer = same("answer and word", (answer.number, answer.word), second)?;
         self.compare()?;
         tally.count(record, answer.0);
+        tally.daily.count(decided);
         tally.on_largest += u64::from(is_largest(&self.core));
         Ok(answer)
     }

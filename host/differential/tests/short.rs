@@ -1,5 +1,5 @@
-//! The seeded short runs: no difference, and every answer that the rules list is reached, and every
-//! finding of a replay.
+//! The seeded short runs: no difference, and every answer that the rules list is reached, every way
+//! in which a hold decides at the daily cap, and every finding of a replay.
 
 use differential::mix::Mix;
 use differential::plan::{run, Plan, SHORT};
@@ -8,6 +8,7 @@ fn finds_no_difference_and_reaches_all(plan: Plan) {
     let tally = run(plan, &mut |_| {}).unwrap_or_else(|f| panic!("{f}"));
     println!("{plan}\n{tally}");
     assert_eq!(tally.missing(), [], "not reached");
+    assert_eq!(tally.daily.missing(), [""; 0], "not reached by payments");
     assert_eq!(tally.replays.missing(), [""; 0], "not reached by replays");
     assert_eq!(
         tally.forbidden(),

@@ -7,16 +7,20 @@ use differential::tally::Tally;
 use differential::twin::{Difference, Twin};
 use milebeacon::Sizes;
 
-/// Finds the first step that is answered by this number.
-fn answered(history: &History, number: u64) -> Option<Found> {
+/// What is looked for: something of a step's answer and of all that was counted so far.
+type Wanted<'a> = &'a dyn Fn(u64, &Tally) -> bool;
+
+/// Finds the first step after which this holds.
+fn first(history: &History, wanted: Wanted<'_>) -> Option<Found> {
     let tally = &mut Tally::default();
     let mut twin = Twin::new(history.world());
     twin.fresh(tally).ok()?;
     let mut last = Vec::new();
     for (step, taken) in history.steps.iter().enumerate() {
         last = taken.record(twin.world(), &last);
-        if twin.submit(&last, tally).ok()?.0 == number {
-            let difference = Difference(format!("answer {number}"));
+        let (answer, _) = twin.submit(&last, tally).ok()?;
+        if wanted(answer, tally) {
+            let difference = Difference(format!("answer {answer}"));
             return Some(Found { step, difference });
         }
     }
@@ -26,10 +30,9 @@ fn answered(history: &History, number: u64) -> Option<Found> {
 /// How many histories are made short. One may come to rest at a few steps more than it takes.
 const TRIED: usize = 8;
 
-/// Of long histories in which the answer is given, the one that becomes the shortest, and its length
-/// before.
-fn smallest(number: u64) -> (usize, History) {
-    let test = |history: &History| answered(history, number);
+/// Of long histories that come to this, the one that becomes the shortest, and its length before.
+fn smallest(wanted: Wanted<'_>) -> (usize, History) {
+    let test = |history: &History| first(history, wanted);
     let long = (0..).map(|seed| {
         let dice = &mut Dice::new(seed);
         History::of(Begin::Fresh, Sizes::PROGRAM, dice, 300)
@@ -46,14 +49,14 @@ fn smallest(number: u64) -> (usize, History) {
 #[test]
 fn a_closed_escrow_is_found_closed_in_a_few_steps() {
     // grant, open, claim, and whatever lets the deadline pass or closes the escrow
-    let (length, small) = smallest(29);
+    let (length, small) = smallest(&|answer, _| answer == 29);
     assert!(small.steps.len() <= 4, "{length} steps became {small:#?}");
 }
 
 #[test]
 fn a_deadline_after_the_escrows_takes_three_steps() {
     // grant, open, claim
-    let (length, small) = smallest(31);
+    let (length, small) = smallest(&|answer, _| answer == 31);
     assert!(small.steps.len() <= 3, "{length} steps became {small:#?}");
     let odd = small
         .steps
@@ -64,4 +67,19 @@ fn a_deadline_after_the_escrows_takes_three_steps() {
         0,
         "knobs that do not matter are plain: {small:#?}"
     );
+}
+
+#[test]
+fn a_hold_that_decides_at_the_end_of_its_day_takes_four_steps() {
+    // grant, caps, open, and the payment
+    for what in [
+        "open refused by a hold of 86,400,000 ms before",
+        "transfer settled after a hold of 86,400,001 ms before",
+    ] {
+        let (length, small) = smallest(&|_, tally| !tally.daily.missing().contains(&what));
+        assert!(
+            small.steps.len() <= 4,
+            "{what}: {length} steps became {small:#?}"
+        );
+    }
 }
