@@ -153,7 +153,7 @@ fn open(connection: &Connection, s: &Submission) -> Result<u64> {
     let spent: u64 = connection
         .prepare_cached(
             "SELECT COALESCE(SUM(amount), 0) FROM journal
-             WHERE signer = ? AND op = 2 AND settled_at >= ?",
+             WHERE signer = ? AND op IN (2, 3) AND settled_at >= ?",
         )?
         .query_row([s.signer, NOW - 86_400_000], |row| row.get(0))?;
     assert!(frozen == 0 && s.amount <= balance && s.amount <= tx_cap);
