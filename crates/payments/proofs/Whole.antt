@@ -25,15 +25,15 @@ exceeds-under a b most h = go (ltb (most - a) b) refl
     go false e = sym (le-ltb most (a + b) (omega (arith, ltb-false (most - a) b e)))
 
 module _ (j : List ℕ) (signer clock : ℕ) where
-  -- what row i adds, and as the loop picks it
+  -- what row i adds, and the same as the loop computes it
   abbrev pub part : ℕ → ℕ
   part i = cond (counts j signer clock i) (word j JOURNAL-LEN i ENTRY-AMOUNT) 0
 
   abbrev pub picked : ℕ → ℕ
   picked i =
       let pays = eqb (word j JOURNAL-LEN i OPERATION) TRANSFER || eqb (word j JOURNAL-LEN i OPERATION) OPEN in
-      let late = leb clock (word j JOURNAL-LEN i SETTLED-AT + DAY-MS) in
-      cond (eqb (word j JOURNAL-LEN i SIGNER) signer && (pays && late)) (word j JOURNAL-LEN i ENTRY-AMOUNT) 0
+      let recent = leb clock (word j JOURNAL-LEN i SETTLED-AT + DAY-MS) in
+      cond (eqb (word j JOURNAL-LEN i SIGNER) signer && (pays && recent)) (word j JOURNAL-LEN i ENTRY-AMOUNT) 0
 
   picked-is : (i : ℕ) → picked i ≡ part i
   picked-is i = rw (or-false (eqb (word j JOURNAL-LEN i OPERATION) OPEN))
@@ -52,9 +52,9 @@ module _ (j : List ℕ) (signer clock : ℕ) where
       go : (t : Bool) → counts j signer clock i ≡ t → cond t (word j JOURNAL-LEN i ENTRY-AMOUNT) 0 ≤ MAX-AMOUNT-MICRO
       go true e =
           let pays = oneOf paying (word j JOURNAL-LEN i OPERATION) in
-          let late = leb clock (word j JOURNAL-LEN i SETTLED-AT + DAY-MS) in
-          let both = and-snd (eqb (word j JOURNAL-LEN i SIGNER) signer) (pays && late) e in
-          h .amounts i l (and-fst pays late both)
+          let recent = leb clock (word j JOURNAL-LEN i SETTLED-AT + DAY-MS) in
+          let both = and-snd (eqb (word j JOURNAL-LEN i SIGNER) signer) (pays && recent) e in
+          h .amounts i l (and-fst pays recent both)
       go false e = omega arith
 
   pub counted-most : (n : ℕ) → Entries j n → (i : ℕ) → i ≤ n → countedOf j i signer clock ≤ i * MAX-AMOUNT-MICRO

@@ -27,7 +27,8 @@ abbrev pub taken : Submission → ℕ → ℕ → ℕ
 taken s signer now = cond (all (eqb (s .signer) signer ∷ oneOf paying (s .op) ∷ leb now (s .now + DAY-MS) ∷ [])) (s .amount) 0
 
 -- "A LATER REFUND DOES NOT GIVE ROOM BACK": a transfer or an open takes its amount, of its signer's room alone and until 24 hours are over; every
--- other submission that settles, a refund, a release or a sweep, leaves everybody's sum at every clock as it was. (One that is refused changes nothing.)
+-- other submission that settles, a refund, a release or a sweep, leaves everybody's sum at every clock as it was. (One that is refused leaves the
+-- ledger: `Refusal-changes-nothing`.)
 abbrev pub Room-is-taken : Type 0
 Room-is-taken =
     (L : Ledger) → HEADER-LEN ≤ L .edition .header → (b : List ℕ) → submit L b .number ≡ 0 → (signer now : ℕ) →
