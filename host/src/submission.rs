@@ -195,6 +195,26 @@ impl Submission {
 
     /// Sets the caps of the wallet `target`: for one payment, and for the transfers and opens of
     /// 24 hours together. Admins only.
+    ///
+    /// An open takes room under the daily cap for 24 hours, and a refund does not give it back:
+    ///
+    /// ```
+    /// # use milebeacon::{Answer, Envelope, EscrowNumber, Ledger, Refusal, Sizes, Submission};
+    /// # let mut ledger = Ledger::new(Sizes::PROGRAM)?;
+    /// let now = 1_700_000_000_000;
+    /// let admin = |nonce| Envelope::new(now, 1, nonce).by_admin();
+    /// let skipper = |nonce| Envelope::new(now, 7, nonce);
+    /// ledger.settle(&Submission::grant(admin(1), 7, 500));
+    /// ledger.settle(&Submission::caps(admin(2), 7, 100, 100));
+    ///
+    /// let hold = Submission::open(skipper(1), 8, 100, now + 3_600_000);
+    /// assert_eq!(ledger.settle(&hold), Answer::Settled(1));
+    /// let refund = Submission::refund(skipper(2), EscrowNumber(1));
+    /// assert_eq!(ledger.settle(&refund), Answer::Settled(0));
+    /// let transfer = Submission::transfer(skipper(3), 8, 1);
+    /// assert_eq!(ledger.settle(&transfer), Answer::Refused(Refusal::DailyCapExceeded));
+    /// # Ok::<(), Refusal>(())
+    /// ```
     pub fn caps(envelope: Envelope, target: u64, per_transaction: u64, daily: u64) -> Submission {
         Submission {
             target,

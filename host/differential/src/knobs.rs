@@ -23,7 +23,7 @@ impl Step {
             .map_or(clock, |row| row.deadline);
         let entry = view.entry(self.pick()).map_or(clock, |row| row.settled_at);
         let later = |moment: u64| if moment > LAST_TIME { clock } else { moment };
-        // a hold of whoever signs if this step is a payment
+        // a hold of whoever signs if this step is a payment, unless its nonce brings another signer
         let after_hold = |span: u64| {
             let payer = self.signer(view, view.any_wallet(self.pick()).unwrap_or(7));
             let hold = view.hold(payer, self.pick() / 3);

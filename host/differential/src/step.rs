@@ -92,8 +92,8 @@ impl Step {
         step.at_the_end_of_a_hold(dice)
     }
 
-    /// One payment in twelve comes when a hold of its signer's counts for the last time or has just
-    /// ceased to, and asks for all that is left of the daily cap or for one more.
+    /// One payment in twelve comes, if its signer has a hold, when that counts for the last time or
+    /// has just ceased to, and asks for all that is left of the daily cap or for one more.
     fn at_the_end_of_a_hold(mut self, dice: &mut Dice) -> Step {
         if matches!(self.op, 1 | 2) && dice.once_in(12) {
             let (tick, amount) = dice.pick(&[(17, 6), (17, 7), (18, 6), (18, 6)]);
