@@ -12,12 +12,16 @@ pub mod Lookup
 pub mod Status
 pub mod Recording
 pub mod Replay
+pub mod Report
 pub mod History
 pub mod Due
 pub mod Promises
 pub mod Same
 pub mod Agreement
+pub mod Month
 pub mod Cap
 pub mod Results
 pub mod Runs
+pub mod Trials
+pub mod CaseSteps
 pub mod Cases

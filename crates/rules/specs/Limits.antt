@@ -1,5 +1,5 @@
 -- The numbers of document 01 by name: limits, times, columns, operations, states. Credits are micro-credits and times milliseconds.
-use Prim.Native.Nat.{ℕ}
+use Prim.Native.Nat.{ℕ, _+_}
 
 -- the first edition's number
 abbrev pub FIRST-EDITION : ℕ
@@ -105,6 +105,40 @@ CUT-SHORT = 2
 
 abbrev pub DISAGREES : ℕ
 DISAGREES = 3
+
+-- the largest number that a figure of the month's report can have: 2^64 - 1
+abbrev pub LAST-FIGURE : ℕ
+LAST-FIGURE = 18_446_744_073_709_551_615
+
+-- the report's five figures, in the paper's order; a figure is named by its place, counted from 1, and a cell of the grid behind them
+abbrev pub FIGURES : ℕ
+FIGURES = 5
+
+abbrev pub GRANTED-SUM : ℕ
+GRANTED-SUM = 0
+
+abbrev pub TRANSFERRED-SUM : ℕ
+TRANSFERRED-SUM = 1
+
+abbrev pub RELEASED-SUM : ℕ
+RELEASED-SUM = 2
+
+abbrev pub REFUNDED-SUM : ℕ
+REFUNDED-SUM = 3
+
+abbrev pub EXPIRED-SUM : ℕ
+EXPIRED-SUM = 4
+
+-- the first word of what a report has named: the figure, or 0; the row and the column of the entry that it stopped before follow
+abbrev pub NAMED-FIGURE : ℕ
+NAMED-FIGURE = 0
+
+-- words of what a call of the report tells: its answer, and how many entries it read
+abbrev pub TOLD-NUMBER : ℕ
+TOLD-NUMBER = 0
+
+abbrev pub TOLD-ENTRIES : ℕ
+TOLD-ENTRIES = 1
 
 -- words of the header
 abbrev pub EDITION : ℕ
@@ -264,6 +298,20 @@ FREEZE = 10
 
 abbrev pub CAPS : ℕ
 CAPS = 11
+
+-- the last of them, and the report's rows: row 0, and one for every operation
+abbrev pub LAST-OPERATION : ℕ
+LAST-OPERATION = CAPS
+
+abbrev pub GRID-ROWS : ℕ
+GRID-ROWS = LAST-OPERATION + 1
+
+-- the last answer, and how many there are: the statuses, and the report's columns
+abbrev pub LAST-ANSWER : ℕ
+LAST-ANSWER = 40
+
+abbrev pub ANSWERS : ℕ
+ANSWERS = LAST-ANSWER + 1
 
 -- bits of the flags
 abbrev pub SIGNATURE-HELD : ℕ

@@ -5,7 +5,7 @@ use mathlib.Core.List.{List, [], _∷_, _++_}
 use mathlib.Core.Bool.{Bool, true, false, not, _&&_}
 use Prim.Native.Nat.{ℕ, _+_, _≤_, _<_, _^_, min}
 use lib.ListN.{getD, length, replicate}
-use Rattle.rules.specs.Limits.{HEADER-LEN, WALLET-LEN, ESCROW-LEN, RECEIPT-LEN, JOURNAL-LEN, RECORD-BYTES, ID, BALANCE, LOCKED, SWEEP}
+use Rattle.rules.specs.Limits.{HEADER-LEN, WALLET-LEN, ESCROW-LEN, RECEIPT-LEN, JOURNAL-LEN, RECORD-BYTES, ID, BALANCE, LOCKED, SWEEP, LAST-ANSWER}
 use Rattle.rules.specs.Table.{rowsIn}
 use Rattle.rules.specs.Ledger.{Edition, Ledger, ledger, outcome, wallet, walletCount, escrowCount, receiptCount, entryCount, hasWallet, setHeader, lengthsRight, freshHeader, fresh}
 use Rattle.rules.specs.Record.{readOf, nothing, writeOf}
@@ -58,7 +58,7 @@ pub record IsFirst (n : ℕ) (rows : List Refusal) : Type 0 where
 -- ---- Demand 1: every answer is on the list, and a refusal changes nothing
 
 abbrev pub On-the-list : Type 0
-On-the-list = (L : Ledger) (b : List ℕ) → submit L b .number ≤ 40
+On-the-list = (L : Ledger) (b : List ℕ) → submit L b .number ≤ LAST-ANSWER
 
 abbrev pub Refusal-changes-nothing : Type 0
 Refusal-changes-nothing = (L : Ledger) (b : List ℕ) → submit L b .number ≢ 0 → Refused L b

@@ -4,7 +4,7 @@ use mathlib.Core.Bool.{Bool, true, false, not, cond, _&&_, _||_}
 use Prim.Native.Nat.{ℕ, zero, suc, _+_, _*_, _/_, _%_, _^_}
 use lib.ListN.{getD, length}
 use lib.Dec.{eqb, ltb, leb}
-use Rattle.rules.specs.Limits.{RECORD-BYTES, MARK-0, MARK-1, LAST-TIME-MS, SWEEP, CAPS}
+use Rattle.rules.specs.Limits.{RECORD-BYTES, MARK-0, MARK-1, LAST-TIME-MS, SWEEP, LAST-OPERATION}
 use Rattle.rules.specs.Table.{all}
 use Rattle.rules.specs.declared.Submission.{Submission}
 use Rattle.rules.specs.declared.Read.{Read}
@@ -59,7 +59,7 @@ bitsUsed flags used =
 abbrev pub formTests : Submission → List Bool
 formTests s =
     let u = usesOf (s .op) in
-    leb 1 (s .op) ∷ leb (s .op) CAPS
+    leb 1 (s .op) ∷ leb (s .op) LAST-OPERATION
     ∷ bitsUsed (s .flags) (u .bits)
     ∷ usedOrZero (u .envelope) (s .signer) ∷ usedOrZero (u .envelope) (s .nonce) ∷ usedOrZero (u .envelope) (s .issued)
     ∷ usedOrZero (u .envelope) (s .expires)

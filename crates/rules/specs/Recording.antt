@@ -35,6 +35,11 @@ wholeEntries r = length r / ENTRY-BYTES
 abbrev pub entriesOf : List ℕ → List Entry
 entriesOf r = entriesFrom r (wholeEntries r) 0
 
+-- the records of entries
+abbrev pub recordsOf : List Entry → List (List ℕ)
+recordsOf [] = []
+recordsOf (e ∷ es) = e .bytes ∷ recordsOf es
+
 -- 1 to 116 bytes are left behind them
 abbrev pub cutShort : List ℕ → Bool
 cutShort r = not (eqb (length r % ENTRY-BYTES) 0)

@@ -18,10 +18,11 @@ use Rattle.rules.specs.declared.Verdict.{Verdict}
 abbrev pub Rule : Type 0
 Rule = Ledger → List ℕ → Outcome
 
--- after an entry: on to the next with what is kept so far, or no further
+-- after an entry: on to the next with what is kept so far, or no further; or no further than before it, and then it is not replayed
 pub data Next (A B : Type 0) : Type 0 where
   on : A → Next A B
   stop : B → Next A B
+  stop-before : B → Next A B
 
 -- what is found, and the tables "as after the last entry replayed"
 pub record Gone (B : Type 0) : Type 0 where
@@ -31,18 +32,19 @@ pub record Gone (B : Type 0) : Type 0 where
 abbrev pub gone : {B : Type 0} → B → Ledger → Gone B
 gone found left = record { found = found; left = left }
 
--- an entry that was replayed, by what is said of it: the rest from there on, or the end
-abbrev pub further : {A B : Type 0} → (A → Gone B) → Ledger → Next A B → Gone B
-further rest L (on a) = rest a
-further rest L (stop b) = gone b L
+-- an entry by what is said of it, with the tables before and after it: the rest from there on, or the end
+abbrev pub further : {A B : Type 0} → (A → Gone B) → Ledger → Ledger → Next A B → Gone B
+further rest L M (on a) = rest a
+further rest L M (stop b) = gone b M
+further rest L M (stop-before b) = gone b L
 
--- THE FOLD: from this ledger, through these entries, with what is said of each. `say` is told what is kept so far, the entry, and what the rule
--- gives for its record; `end` says what is found where no entry is left.
-unfoldable pub through : {A B : Type 0} → Rule → (A → Entry → Outcome → Next A B) → (A → B) → A → Ledger → List Entry → Gone B
+-- THE FOLD: from this ledger, through these entries, with what is said of each. `say` is told what is kept so far, the ledger before the entry,
+-- the entry, and what the rule gives for its record; `end` says what is found where no entry is left.
+unfoldable pub through : {A B : Type 0} → Rule → (A → Ledger → Entry → Outcome → Next A B) → (A → B) → A → Ledger → List Entry → Gone B
 through rule say end kept L [] = gone (end kept) L
 through rule say end kept L (e ∷ es) =
     let o = rule L (e .bytes) in
-    further (λ a. through rule say end a (o .left) es) (o .left) (say kept e o)
+    further (λ a. through rule say end a (o .left) es) L (o .left) (say kept L e o)
 
 -- ---- The replay
 
@@ -54,8 +56,8 @@ abbrev pub agrees : Entry → Outcome → Bool
 agrees e o = eqb (e .number) (o .number) && eqb (e .word) (o .word)
 
 -- after n entries that agree, the next one
-unfoldable pub compared : ℕ → Entry → Outcome → Next ℕ Found
-compared n e o = cond (agrees e o) (on (n + 1)) (stop (Disagrees (n + 1) (answer (e .number) (e .word)) (answer (o .number) (o .word))))
+unfoldable pub compared : ℕ → Ledger → Entry → Outcome → Next ℕ Found
+compared n L e o = cond (agrees e o) (on (n + 1)) (stop (Disagrees (n + 1) (answer (e .number) (e .word)) (answer (o .number) (o .word))))
 
 -- n entries agree, and there is no other whole one
 unfoldable pub ended : Bool → ℕ → Found

@@ -11,7 +11,7 @@ use contract.Lifetimes.{Lfts}
 use borrow.Fn.Kind.{PK, RK}
 use borrow.Fn.Kinds.{Dens, Out, resT, endedOf}
 use denote.Triple.Clauses.{Lasts, AtExit, atExit}
-use Rattle.rules.specs.Limits.{WALLET-LEN, RECEIPT-LEN, NOT-REPLAYED, ALL-AGREE, CUT-SHORT, DISAGREES}
+use Rattle.rules.specs.Limits.{WALLET-LEN, RECEIPT-LEN, LAST-ANSWER, NOT-REPLAYED, ALL-AGREE, CUT-SHORT, DISAGREES}
 use Rattle.rules.specs.Table.{rowsIn}
 use Rattle.rules.specs.Ledger.{Edition, Ledger, outcome, setHeader, freshHeader, fresh}
 use Rattle.rules.specs.Record.{readOf, nothing, Written, writeOf}
@@ -21,6 +21,7 @@ use Rattle.rules.specs.Submit.{submit}
 use Rattle.rules.specs.Lookup.{escrowPlace, escrowPart, receiptPlace, receiptPart, walletNumber}
 use Rattle.rules.specs.Status.{statuses, statusOf}
 use Rattle.rules.specs.Replay.{gone, told, replay}
+use Rattle.rules.specs.Report.{Report, telling, report}
 use Rattle.rules.specs.Promises.{none, IsFirst}
 use Rattle.rules.specs.declared.Submission.{Submission}
 use Rattle.rules.specs.declared.Read.{Read}
@@ -74,6 +75,7 @@ pub data Result : Type 0 where
   by-fresh : (lent left : Ledger) (number : ℕ) → Result
   by-submit : (lent left : Ledger) (bytes : List ℕ) (number word : ℕ) → Result
   by-replay : (lent left : Ledger) (recording : List ℕ) (verdict : Verdict) → Result
+  by-report : (lent left : Ledger) (recording : List ℕ) (before after : Report) (number entries : ℕ) → Result
   by-lookup : (lent left : Pair) (looked : Looked) → Result
   by-read : (bytes : List ℕ) (answer : Read) → Result
   by-write : (s : Submission) (out left : List ℕ) (number : ℕ) → Result
@@ -92,6 +94,8 @@ abbrev pub Meets : Edition → Result → Type 0
 Meets e (by-fresh lent left number) = (lent .edition ≡ e) × (outcome number 0 left ≡ fresh lent)
 Meets e (by-submit lent left bytes number word) = (lent .edition ≡ e) × (outcome number word left ≡ submit lent bytes)
 Meets e (by-replay lent left recording verdict) = (lent .edition ≡ e) × (gone verdict left ≡ told (replay submit lent recording))
+Meets e (by-report lent left recording before after number entries) =
+    (lent .edition ≡ e) × (telling number entries after left ≡ report submit before lent recording)
 Meets e (by-lookup lent left looked) = (left ≡ lent) × Finds-as e lent looked
 Meets e (by-read bytes answer) = answer ≡ readOf bytes
 Meets e (by-write s out left number) = _≡_ {A = Written} (record { number = number; out = left }) (writeOf s out)
@@ -111,15 +115,17 @@ Part-of e table (receipt-row number part) = (part ≡ []) ⊎ (length part ≡ R
 pub record Finding (v : Verdict) : Type 0 where
   pub number : v .number ≡ 0
   pub finding : (v .finding ≡ ALL-AGREE) ⊎ ((v .finding ≡ CUT-SHORT) ⊎ (v .finding ≡ DISAGREES))
-  pub answered : v .answered .number ≤ 40
+  pub answered : v .answered .number ≤ LAST-ANSWER
   pub word : v .answered .number ≢ 0 → v .answered .word ≡ 0
 
 abbrev pub Listed : Edition → Result → Type 0
 Listed e (by-fresh lent left number) =
     ((number ≡ 0) × (left ≡ setHeader (freshHeader e) lent)) ⊎ ((number ≡ 1) × (left ≡ lent))
-Listed e (by-submit lent left bytes number word) = (number ≤ 40) × (number ≢ 0 → (word ≡ 0) × (left ≡ lent))
+Listed e (by-submit lent left bytes number word) = (number ≤ LAST-ANSWER) × (number ≢ 0 → (word ≡ 0) × (left ≡ lent))
 Listed e (by-replay lent left recording verdict) =
     Finding verdict ⊎ ((verdict .number ≡ 1) × (verdict .finding ≡ NOT-REPLAYED) × (left ≡ lent))
+Listed e (by-report lent left recording before after number entries) =
+    (number ≡ 0) ⊎ ((number ≡ 1) × (entries ≡ 0) × (after ≡ before) × (left ≡ lent))
 Listed e (by-lookup lent left looked) = (left ≡ lent) × Part-of e (lent .table) looked
 Listed e (by-read bytes answer) = (answer .number ≡ 0) ⊎ ((answer .number ≡ 3) × (answer .submission ≡ nothing))
 Listed e (by-write s out left number) = (number ≡ 0) ⊎ ((number ≡ 3) × (left ≡ out))
@@ -137,6 +143,7 @@ abbrev pub DecidedBy : Result → Type 0
 DecidedBy (by-fresh lent left number) = Unit {0}
 DecidedBy (by-submit lent left bytes number word) = Decided lent left bytes number word
 DecidedBy (by-replay lent left recording verdict) = Unit {0}
+DecidedBy (by-report lent left recording before after number entries) = Unit {0}
 DecidedBy (by-lookup lent left looked) = Unit {0}
 DecidedBy (by-read bytes answer) = Unit {0}
 DecidedBy (by-write s out left number) = Unit {0}

@@ -5,18 +5,20 @@ use mathlib.Core.Logic.{_≢_}
 use mathlib.Core.List.{List, [], _∷_, _++_}
 use mathlib.Core.Bool.{Bool, true, cond, _&&_}
 use Prim.Native.Nat.{ℕ, zero, suc}
-use lib.ListN.{length}
+use lib.ListN.{length, take}
 use lib.Dec.{eqb}
 use Rattle.rules.specs.Limits.{ESCROW-LEN, RECORD-BYTES, SWEEP, ALL-AGREE, DISAGREES}
 use Rattle.rules.specs.Ledger.{Edition, Ledger, Sized, setHeader, setWallets, setEscrows, setReceipts}
 use Rattle.rules.specs.Record.{readOf}
 use Rattle.rules.specs.Sound.{sound}
-use Rattle.rules.specs.Recording.{Entry, asEntry, entriesOf, recordingOf}
-use Rattle.rules.specs.Replay.{answer, verdict}
+use Rattle.rules.specs.Recording.{Entry, asEntry, entriesOf, recordsOf, recordingOf}
+use Rattle.rules.specs.Replay.{answer, verdict, recordedFrom}
+use Rattle.rules.specs.Report.{hasNamed}
+use Rattle.rules.specs.Submit.{submit}
 use Rattle.rules.specs.History.{Event, submitted, begun, Said, unbroken}
-use Rattle.rules.specs.Promises.{Adds-up, Same-lengths}
+use Rattle.rules.specs.Promises.{Adds-up, Same-lengths, started}
 use Rattle.rules.specs.Same.{Same-written}
-use Rattle.rules.specs.Results.{Looked, wallet-number, escrow-place, escrow-row, receipt-place, receipt-row, Result, by-fresh, by-submit, by-replay, by-lookup, by-read, by-write, by-status, Meets, Listed, DecidedBy}
+use Rattle.rules.specs.Results.{Looked, wallet-number, escrow-place, escrow-row, receipt-place, receipt-row, Result, by-fresh, by-submit, by-replay, by-report, by-lookup, by-read, by-write, by-status, Meets, Listed, DecidedBy}
 use Rattle.rules.specs.declared.Answer.{Answer}
 use Rattle.rules.specs.declared.Verdict.{Verdict}
 
@@ -40,6 +42,7 @@ abbrev pub LentOf : Result → Ledger → Type 0
 LentOf (by-fresh lent left number) L = lent ≡ L
 LentOf (by-submit lent left bytes number word) L = lent ≡ L
 LentOf (by-replay lent left recording verdict) L = lent ≡ L
+LentOf (by-report lent left recording before after number entries) L = lent ≡ L
 LentOf (by-lookup lent left looked) L = (lent .header ≡ L .header) × (lent .table ≡ asked looked L)
 LentOf (by-read bytes answer) L = Unit {0}
 LentOf (by-write s out left number) L = Unit {0}
@@ -50,6 +53,7 @@ abbrev pub leftBy : Result → Ledger → Ledger
 leftBy (by-fresh lent left number) L = left
 leftBy (by-submit lent left bytes number word) L = left
 leftBy (by-replay lent left recording verdict) L = left
+leftBy (by-report lent left recording before after number entries) L = left
 leftBy (by-lookup lent left looked) L = setHeader (left .header) (setAsked looked (left .table) L)
 leftBy (by-read bytes answer) L = L
 leftBy (by-write s out left number) L = L
@@ -64,12 +68,18 @@ replayedIn disagrees core (suc n) (e ∷ es) =
     let x = cond (disagrees && eqb n 0) core (answer (e .number) (e .word)) in
     asEntry (e .bytes) (x .number) (x .word) ∷ replayedIn disagrees core n es
 
+-- the first n entries of a recording as a report read them: the call does not tell what each was answered, but it is what the rules give for their
+-- records, one after the other on those tables started afresh
+abbrev pub readIn : Ledger → ℕ → List ℕ → List Entry
+readIn lent n recording = recordedFrom submit (started lent) (recordsOf (take n (entriesOf recording)))
+
 -- what was submitted in a call: each time the bytes, and their answer
 abbrev pub submittedBy : Result → List Entry
 submittedBy (by-fresh lent left number) = []
 submittedBy (by-submit lent left bytes number word) = asEntry bytes number word ∷ []
 submittedBy (by-replay lent left recording verdict) =
     replayedIn (eqb (verdict .finding) DISAGREES) (verdict .answered) (verdict .replayed) (entriesOf recording)
+submittedBy (by-report lent left recording before after number entries) = readIn lent entries recording
 submittedBy (by-lookup lent left looked) = []
 submittedBy (by-read bytes answer) = []
 submittedBy (by-write s out left number) = []
@@ -80,11 +90,15 @@ abbrev pub events : List Entry → List Event
 events [] = []
 events (e ∷ es) = submitted (record { submission = readOf (e .bytes) .submission; number = e .number; word = e .word }) ∷ events es
 
--- what the caller can write down of a call, without looking at a table. A replay is a start afresh, and then submissions.
+-- what the caller can write down of a call, without looking at a table. A replay is a start afresh, and then submissions, and so is a report, unless it
+-- had stopped before.
 abbrev pub heardOf : Result → List Event
 heardOf (by-fresh lent left number) = begun number ∷ []
 heardOf (by-submit lent left bytes number word) = events (submittedBy (by-submit lent left bytes number word))
 heardOf (by-replay lent left recording verdict) = begun (verdict .number) ∷ events (submittedBy (by-replay lent left recording verdict))
+heardOf (by-report lent left recording before after number entries) =
+    cond (hasNamed before) []
+    (begun number ∷ events (submittedBy (by-report lent left recording before after number entries)))
 heardOf (by-lookup lent left looked) = []
 heardOf (by-read bytes answer) = []
 heardOf (by-write s out left number) = []

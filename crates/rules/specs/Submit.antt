@@ -11,6 +11,10 @@ use Rattle.rules.specs.declared.Read.{Read}
 unfoldable pub answerOf : Ledger → Read → ℕ
 answerOf L r = first (refusals L r)
 
+-- what bytes are read as, and the number of their answer: all that is decided before anything changes
+abbrev pub decided : Ledger → List ℕ → Read
+decided L bytes = record { number = answerOf L (readOf bytes); submission = readOf bytes .submission }
+
 -- settled, or refused with the word 0 and the ledger as it was
 abbrev pub finish : ℕ → Done → Ledger → Outcome
 finish zero d L = outcome 0 (d .word) (d .after)

@@ -1,9 +1,11 @@
 // The submission and the answers, as every crate and the host know them; the named limits and columns; the status of an answer.
 ghost use mathlib.Core.Path.{_≡_};
 ghost use Rattle.rules.specs.Status.{statusOf};
+use crate::limits::ANSWERS;
 use crate::limits::ESCROW_LEN;
 use crate::limits::FIRST_EDITION;
 use crate::limits::HEADER_LEN;
+use crate::limits::LAST_ANSWER;
 
 pub mod limits;
 
@@ -63,6 +65,13 @@ pub struct Verdict {
     pub answered: Answer,
 }
 
+// What adding a recording to the month's report came to: the answer, and how many entries were read.
+#[repr(C)]
+pub struct Told {
+    pub number: u64,
+    pub entries: u64,
+}
+
 // What an edition fixes: its number, and the words of a header and of an escrow row.
 pub struct Edition {
     pub number: u64,
@@ -87,7 +96,7 @@ pub struct EscrowNumber(pub u64);
 #[repr(C)]
 pub struct ReceiptNumber(pub u64);
 
-const STATUSES: [u64; 41] = [
+const STATUSES: [u64; ANSWERS] = [
     200,
     500,
     500,
@@ -135,7 +144,7 @@ const STATUSES: [u64; 41] = [
 pub fn status(number: u64) -> u64
     ensures { λ r. ⌜ r ≡ statusOf number ⌝ }
 {
-    if number <= 40 {
+    if number <= LAST_ANSWER {
         STATUSES[number as usize]
     } else {
         500

@@ -1,0 +1,128 @@
+-- The steps of the checked cases by name: those of P1 to P12, and behind them those of each change request.
+use mathlib.Core.List.{List, [], _∷_}
+use Prim.Native.Nat.{ℕ, _+_}
+use lib.ListN.{set, replicate}
+use Rattle.rules.specs.Limits.{GRANT, TRANSFER, OPEN, RELEASE, REFUND, CLAIM, ACCEPT, SWEEP, CAPS, ALL-AGREE, FIGURES}
+use Rattle.rules.specs.Record.{encode}
+use Rattle.rules.specs.Recording.{Entry, asEntry}
+use Rattle.rules.specs.Replay.{answer, verdict}
+use Rattle.rules.specs.Report.{Report, reportOf, blank-report}
+use Rattle.rules.specs.Trials.{Step, Counted, sub, step, leaves, has, withCells}
+use Rattle.rules.specs.declared.Submission.{Submission}
+use Rattle.rules.specs.declared.Verdict.{Verdict}
+
+-- ---- P1 to P12
+
+-- grant 50,000,000 to 7; its signer is an admin, 1
+abbrev pub P1 : Step
+P1 = leaves (sub GRANT 0b0011 1_000 1 1 1_000 2_000 7 50_000_000 0 0) 0 0 (has 7 50_000_000 0 ∷ [])
+
+-- 7 opens 20,000,000 to 8, until 501,000
+abbrev pub opening : Submission
+opening = sub OPEN 0b0001 1_000 7 1 1_000 2_000 8 20_000_000 501_000 0
+
+abbrev pub P2 : Step
+P2 = leaves opening 0 1 (has 7 30_000_000 20_000_000 ∷ has 8 0 0 ∷ [])
+
+-- the retry of P2
+abbrev pub P3 : Step
+P3 = leaves opening 11 0 (has 7 30_000_000 20_000_000 ∷ [])
+
+-- 7 releases escrow 1
+abbrev pub releases : ℕ → ℕ → Submission
+releases now nonce = sub RELEASE 0b0001 now 7 nonce now (now + 1_000) 1 0 0 0
+
+abbrev pub P4 : Step
+P4 = leaves (releases 501_000 2) 0 0 (has 8 20_000_000 0 ∷ has 7 30_000_000 0 ∷ [])
+
+abbrev pub transfers : ℕ → Submission
+transfers amount = sub TRANSFER 0b0001 1_000 7 5 1_000 2_000 8 amount 0 0
+
+-- a grant at 100,000 with this envelope
+abbrev pub enveloped : ℕ → ℕ → Submission
+enveloped issued expires = sub GRANT 0b0011 100_000 1 1 issued expires 7 1 0 0
+
+-- 7 opens 1,000,000 to 8 at 1,000
+abbrev pub opens : ℕ → ℕ → Submission
+opens nonce until = sub OPEN 0b0001 1_000 7 nonce 1_000 2_000 8 1_000_000 until 0
+
+-- 8 claims on escrow 1, and 7 accepts a receipt in time
+abbrev pub claims : ℕ → Submission
+claims nonce = sub CLAIM 0b0001 1_000 8 nonce 1_000 2_000 7 0 400_000 1
+
+abbrev pub accepts : ℕ → ℕ → Submission
+accepts nonce number = sub ACCEPT 0b0001 400_000 7 nonce 400_000 401_000 number 0 0 0
+
+abbrev pub sweeps : Submission
+sweeps = sub SWEEP 0 3_000 0 0 0 0 0 1 0 0
+
+-- ---- Request 1: recordings
+
+abbrev pub all-agree : ℕ → Verdict
+all-agree n = verdict 0 ALL-AGREE n (answer 0 0) (answer 0 0)
+
+-- ---- Request 2: the daily cap
+
+-- 7 may pay 50,000,000 at once and 20,000,000 a day: an admin's word
+abbrev pub capped : ℕ → Step
+capped admin = step (sub CAPS 0b0011 1_000 admin 2 1_000 2_000 7 50_000_000 0 20_000_000) 0 0
+
+-- a grant to 8 by an admin, at 1,000
+abbrev pub grants-8 : ℕ → Step
+grants-8 admin = step (sub GRANT 0b0011 1_000 admin 3 1_000 2_000 8 20_000_000 0 0) 0 0
+
+-- a hold at 1,000 until 501,000
+abbrev pub holds-by : ℕ → ℕ → ℕ → ℕ → Submission
+holds-by signer nonce target amount = sub OPEN 0b0001 1_000 signer nonce 1_000 2_000 target amount 501_000 0
+
+-- the moments 86,400,000 and 86,400,001 ms after 1,000
+abbrev pub DAY-ENDS-MS : ℕ
+DAY-ENDS-MS = 86_401_000
+
+abbrev pub DAY-OVER-MS : ℕ
+DAY-OVER-MS = 86_401_001
+
+-- 7 pays 1 more to 8
+abbrev pub transfers-1 : ℕ → Submission
+transfers-1 now = sub TRANSFER 0b0001 now 7 9 now (now + 1_000) 8 1 0 0
+
+abbrev pub opens-1 : ℕ → Submission
+opens-1 now = sub OPEN 0b0001 now 7 9 now (now + 1_000) 8 1 (now + 1) 0
+
+-- ---- Request 3: the month's report
+
+-- a record in a recording, where the recorded answer is of no account; and with another first byte
+abbrev pub sent : Submission → Entry
+sent s = asEntry (encode s) 0 0
+
+abbrev pub unmarked : Submission → Entry
+unmarked s = asEntry (set (encode s) 0 0) 3 0
+
+-- an operation byte, and nothing else
+abbrev pub bare : ℕ → Submission
+bare op = sub op 0 0 0 0 0 0 0 0 0 0
+
+-- a refund and a release at 2,000
+abbrev pub refunds-2000 : ℕ → ℕ → Submission
+refunds-2000 nonce number = sub REFUND 0b0001 2_000 7 nonce 2_000 3_000 number 0 0 0
+
+abbrev pub releases-2000 : ℕ → ℕ → Submission
+releases-2000 nonce number = sub RELEASE 0b0001 2_000 7 nonce 2_000 3_000 number 0 0 0
+
+-- a sweep at a time, with a limit
+abbrev pub sweeps-at : ℕ → ℕ → Submission
+sweeps-at now limit = sub SWEEP 0 now 0 0 0 0 0 limit 0 0
+
+-- 8 claims on escrow 1, to be accepted by itself after 400,000
+abbrev pub claims-auto : ℕ → Submission
+claims-auto nonce = sub CLAIM 0b0101 1_000 8 nonce 1_000 2_000 7 0 400_000 1
+
+-- a report with these cells and figures, that has named nothing
+abbrev pub brought : List Counted → List ℕ → Report
+brought cells figures = reportOf (withCells (blank-report .grid) cells) figures (blank-report .named)
+
+abbrev pub NONE-YET : List ℕ
+NONE-YET = replicate FIGURES 0
+
+abbrev pub NOTHING-NAMED : List ℕ
+NOTHING-NAMED = 0 ∷ 0 ∷ 0 ∷ []
