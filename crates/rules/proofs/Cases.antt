@@ -14,7 +14,9 @@ use Rattle.rules.specs.Settle.{grant, transfer, openEscrow, release, ref
 use Rattle.rules.specs.Submit.{answerOf, submitRead, submit}
 use Rattle.rules.specs.Recording.{entryAt, entriesFrom}
 use Rattle.rules.specs.Replay.{through, compared, ended, replayOn, replay}
-use Rattle.rules.specs.Cases.{Trial, Case, holds, failing, cases}
+use Rattle.rules.specs.Report.{endedAs, addsOf, tallied, passing, stopped, reported, reportOn, report}
+use Rattle.rules.specs.Trials.{Trial, Case, holds, failing}
+use Rattle.rules.specs.Cases.{cases}
 
 abbrev Goes : ℕ → Trial → Type 0
 Goes label trial = holds trial ≡ true
@@ -24,8 +26,8 @@ Each [] = Unit {0}
 Each (c ∷ cs) = Goes (c .label) (c .trial) × Each cs
 
 each-goes : Each cases
-unfolding sum every some seek loop rowOf putHead putWallet putEscrow putReceipt newWallet newEscrow newReceipt newEntry lengthsRight fresh usesOf wellFormed decode encode accepted readOf heldIn credits sound seenIn seen countedOf counted entryRefusals envelopeRefusals operationRefusals refusals raise lower ensureWallet endEscrow closeReceipt acceptRow closeDueReceipt closeDueEscrow sweepReceipt sweepEscrow sweptReceipts swept grant transfer openEscrow release refund claim accept dispute sweep freeze caps operate enter settle answerOf submitRead submit entryAt entriesFrom through compared ended replayOn replay
-each-goes = (refl, (refl, (refl, (refl, (refl, (refl, (refl, (refl, (refl, (refl, (refl, (refl, (refl, (refl, (refl, (refl, (refl, (refl, (refl, (refl, (refl, (refl, (refl, (refl, (refl, (refl, (refl, (refl, tt))))))))))))))))))))))))))))
+unfolding sum every some seek loop rowOf putHead putWallet putEscrow putReceipt newWallet newEscrow newReceipt newEntry lengthsRight fresh usesOf wellFormed decode encode accepted readOf heldIn credits sound seenIn seen countedOf counted entryRefusals envelopeRefusals operationRefusals refusals raise lower ensureWallet endEscrow closeReceipt acceptRow closeDueReceipt closeDueEscrow sweepReceipt sweepEscrow sweptReceipts swept grant transfer openEscrow release refund claim accept dispute sweep freeze caps operate enter settle answerOf submitRead submit entryAt entriesFrom through compared ended replayOn replay endedAs addsOf tallied passing stopped reported reportOn report
+each-goes = (refl, (refl, (refl, (refl, (refl, (refl, (refl, (refl, (refl, (refl, (refl, (refl, (refl, (refl, (refl, (refl, (refl, (refl, (refl, (refl, (refl, (refl, (refl, (refl, (refl, (refl, (refl, (refl, (refl, (refl, (refl, (refl, (refl, (refl, (refl, (refl, (refl, (refl, (refl, (refl, (refl, (refl, (refl, (refl, (refl, tt)))))))))))))))))))))))))))))))))))))))))))))
 
 none-fails : (cs : List Case) → Each cs → failing cs ≡ []
 none-fails [] e = refl

@@ -52,9 +52,22 @@ pub mod SameSettle
 pub mod Words
 pub mod Entries
 pub mod Recordings
+-- the month's report: the grid, what is named, the entries that are read, a recording, a month; that no figure passes 2^64 - 1; escrows from one
+-- ledger to the next, what each operation adds, and that the figures fit the books
+pub mod Grid
+pub mod Past
+pub mod Tallies
+pub mod Month
+pub mod Bounded
+pub mod Onward
+pub mod Ended
+pub mod Adds
+pub mod Held
+pub mod Fits
 -- from the code to the demands: one call, and runs of calls
 pub mod Heard
 pub mod Replays
+pub mod Reports
 pub mod Results
 pub mod Runs
 pub mod Recorded

@@ -13,7 +13,7 @@ use Rattle.rules.specs.Limits.{RECORD-BYTES, ALL-AGREE}
 use Rattle.rules.specs.Ledger.{Edition, Ledger, fresh}
 use Rattle.rules.specs.Record.{accepted, readOf}
 use Rattle.rules.specs.Submit.{submit}
-use Rattle.rules.specs.Recording.{Entry, asEntry, recordingOf}
+use Rattle.rules.specs.Recording.{Entry, asEntry, recordsOf, recordingOf}
 use Rattle.rules.specs.Replay.{Gone, gone, told, replay, recordedFrom, ledgerAfter, verdict, answer}
 use Rattle.rules.specs.History.{Call, starts-afresh, submits, reads, writes, asks-status, finds-wallet, finds-escrow, finds-receipt, Event, begun, unbroken, after, said}
 use Rattle.rules.specs.Promises.{started}
@@ -31,16 +31,11 @@ use Rattle.rules.proofs.Runs.{calls, run-after, run-heard, run-answered
 
 -- ---- calls
 
--- the records of entries
-abbrev records : List Entry → List (List ℕ)
-records [] = []
-records (e ∷ es) = e .bytes ∷ records es
-
 -- the entries are those of their records from L on, and the last ledger is what those leave
 record As-recorded (L : Ledger) (es : List Entry) (last : Ledger) : Type 0 where
-  whole : AllRecords (records es)
-  entries : es ≡ recordedFrom submit L (records es)
-  left : last ≡ ledgerAfter submit L (records es)
+  whole : AllRecords (recordsOf es)
+  entries : es ≡ recordedFrom submit L (recordsOf es)
+  left : last ≡ ledgerAfter submit L (recordsOf es)
 
 -- bytes of another length are no record, and change nothing
 other-length : (L : Ledger) (b : List ℕ) → length b ≢ RECORD-BYTES → submit L b .left ≡ L
@@ -83,7 +78,7 @@ calls-recorded L (finds-receipt k ∷ cs) u = calls-recorded L cs u
 
 -- ---- a run
 
-as-many : (es : List Entry) → length (records es) ≡ length es
+as-many : (es : List Entry) → length (recordsOf es) ≡ length es
 as-many [] = refl
 as-many (e ∷ es) = ap suc (as-many es)
 
@@ -109,14 +104,14 @@ module _ (S : Surface) where
           (calls-recorded (started L) (begins-so .rest) (ap unbroken (begins-so .heard-rest) ∙ u))
 
       -- what was replayed is what the definitions record
-      met : gone v left ≡ told (replay submit lent (recordingOf (recordedFrom submit (started L) (records es))))
+      met : gone v left ≡ told (replay submit lent (recordingOf (recordedFrom submit (started L) (recordsOf es))))
       met =
           subst (λ (r : Result). Meets (S .edition) r) shown (S .meets again) .1
           ∙ ap (λ (l : List Entry). told (replay submit lent (recordingOf l))) (run-is .entries)
 
-      found : Finds (verdict 0 ALL-AGREE (length (records es)) (answer 0 0) (answer 0 0)) (ledgerAfter submit (started L) (records es)) (replay submit lent (recordingOf (recordedFrom submit (started L) (records es))))
+      found : Finds (verdict 0 ALL-AGREE (length (recordsOf es)) (answer 0 0) (answer 0 0)) (ledgerAfter submit (started L) (recordsOf es)) (replay submit lent (recordingOf (recordedFrom submit (started L) (recordsOf es))))
       found =
-          own-recordings-agree L lent (records es)
+          own-recordings-agree L lent (recordsOf es)
           (record {
             lent = lent-of S L edition-is (begins-so .number);
             escrow = ap (λ (e : Edition). e .escrow) edition-is ∙ eight;

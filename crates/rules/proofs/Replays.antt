@@ -34,7 +34,7 @@ submissions (suc n) [] = []
 submissions (suc n) (e ∷ es) = submits (e .bytes) ∷ submissions n es
 
 -- what they are answered is what is heard of them
-heard-so : (L : Ledger) (n : ℕ) (es : List Entry) → events (answeredOn L (submissions n es)) ≡ said L (submissions n es)
+pub heard-so : (L : Ledger) (n : ℕ) (es : List Entry) → events (answeredOn L (submissions n es)) ≡ said L (submissions n es)
 heard-so L zero es = refl
 heard-so L (suc n) [] = refl
 heard-so L (suc n) (e ∷ es) = ap (λ (l : List Event). says L (submits (e .bytes)) ++ l) (heard-so (submit L (e .bytes) .left) n es)
@@ -100,7 +100,7 @@ as-calls cut n L [] =
     (λ e. none-left L n (AllAgree n) (record { number = refl; finding = inl refl; answered = omega arith; word = λ ne. refl }) refl refl)
 as-calls cut n L (e ∷ es) =
     let o = submit L (e .bytes) in
-    cond-case (λ (x : Next ℕ Found). As-calls L n (e ∷ es) (further (λ (k : ℕ). through submit compared (ended cut) k (o .left) es) (o .left) x)) (agrees e o)
+    cond-case (λ (x : Next ℕ Found). As-calls L n (e ∷ es) (further (λ (k : ℕ). through submit compared (ended cut) k (o .left) es) L (o .left) x)) (agrees e o)
     (on (n + 1)) (stop (Disagrees (n + 1) (answer (e .number) (e .word)) (answer (o .number) (o .word))))
     (λ a. one-more L n e es _ a (as-calls cut (n + 1) (o .left) es))
     (λ a. record {

@@ -11,14 +11,16 @@ use Rattle.rules.specs.Record.{readOf, nothing, Written}
 use Rattle.rules.specs.Refusals.{refusals}
 use Rattle.rules.specs.Submit.{submit}
 use Rattle.rules.specs.Replay.{Gone}
+use Rattle.rules.specs.Report.{Reported}
 use Rattle.rules.specs.Status.{statuses}
 use Rattle.rules.specs.Promises.{IsFirst, Refused}
-use Rattle.rules.specs.Results.{Pair, Looked, wallet-number, escrow-place, escrow-row, receipt-place, receipt-row, Result, by-fresh, by-submit, by-replay, by-lookup, by-read, by-write, by-status, Finds-as, Meets, Part-of, Finding, Listed, Decided, DecidedBy}
+use Rattle.rules.specs.Results.{Pair, Looked, wallet-number, escrow-place, escrow-row, receipt-place, receipt-row, Result, by-fresh, by-submit, by-replay, by-report, by-lookup, by-read, by-write, by-status, Finds-as, Meets, Part-of, Finding, Listed, Decided, DecidedBy}
 use Rattle.rules.specs.declared.Read.{Read}
 use Rattle.rules.specs.declared.Verdict.{Verdict}
 use Rattle.rules.proofs.Places.{place-within}
 use Rattle.rules.proofs.Demand12.{on-the-list, refusal-changes-nothing, fresh-case, read-answers, write-answers, part-answers, settles-exactly, first-refusal, laid-down}
 use Rattle.rules.proofs.Replays.{replays}
+use Rattle.rules.proofs.Reports.{report-answers}
 
 -- ---- a start afresh
 
@@ -78,6 +80,9 @@ listed e (by-submit lent left bytes number word) m = listed-submit lent left byt
 listed e (by-replay lent left recording verdict) m =
     subst (λ (g : Gone Verdict). Finding (g .found) ⊎ ((g .found .number ≡ 1) × (g .found .finding ≡ NOT-REPLAYED) × (g .left ≡ lent))) (sym (m .1))
     (replays lent recording .listed)
+listed e (by-report lent left recording before after number entries) m =
+    subst (λ (x : Reported). (x .number ≡ 0) ⊎ ((x .number ≡ 1) × (x .entries ≡ 0) × (x .report ≡ before) × (x .left ≡ lent))) (sym (m .1))
+    (report-answers before lent recording)
 listed e (by-lookup lent left looked) m = (m .0, part-of e lent looked (m .1))
 listed e (by-read bytes answer) m =
     subst (λ (r : Read). (r .number ≡ 0) ⊎ ((r .number ≡ 3) × (r .submission ≡ nothing))) (sym m) (read-answers bytes)
@@ -89,6 +94,7 @@ pub decided-by : (e : Edition) (r : Result) → Meets e r → DecidedBy r
 decided-by e (by-fresh lent left number) m = tt
 decided-by e (by-submit lent left bytes number word) m = decided lent left bytes number word (m .1)
 decided-by e (by-replay lent left recording verdict) m = tt
+decided-by e (by-report lent left recording before after number entries) m = tt
 decided-by e (by-lookup lent left looked) m = tt
 decided-by e (by-read bytes answer) m = tt
 decided-by e (by-write s out left number) m = tt

@@ -11,25 +11,30 @@ use Rattle.rules.specs.Sound.{sound}
 use Rattle.rules.specs.Submit.{submit}
 use Rattle.rules.specs.Recording.{Entry, asEntry}
 use Rattle.rules.specs.Replay.{Gone, told, replay}
+use Rattle.rules.specs.Report.{Report, hasNamed, Reported, telling, report}
 use Rattle.rules.specs.History.{Call, starts-afresh, submits, Event, Said, saidOf, submitted, begun, after, said}
 use Rattle.rules.specs.Promises.{Lent, started, Adds-up}
-use Rattle.rules.specs.Results.{Pair, Looked, wallet-number, escrow-place, escrow-row, receipt-place, receipt-row, Result, by-fresh, by-submit, by-replay, by-lookup, by-read, by-write, by-status, Meets}
-use Rattle.rules.specs.Runs.{asked, setAsked, LentOf, leftBy, submittedBy, heardOf, Surface, Run, lastOf, heardBy, submittedIn, Calls-are-listed, Calls-decide, Runs-add-up, Runs-refuse-retries, Retries-change-nothing}
+use Rattle.rules.specs.Results.{Pair, Looked, wallet-number, escrow-place, escrow-row, receipt-place, receipt-row, Result, by-fresh, by-submit, by-replay, by-report, by-lookup, by-read, by-write, by-status, Meets}
+use Rattle.rules.specs.Runs.{asked, setAsked, LentOf, leftBy, readIn, events, submittedBy, heardOf, Surface, Run, lastOf, heardBy, submittedIn, Calls-are-listed, Calls-decide, Runs-add-up, Runs-refuse-retries, Retries-change-nothing}
 use Rattle.rules.specs.declared.Verdict.{Verdict}
+use Rattle.rules.proofs.Bools.{cond-case}
 use Rattle.rules.proofs.Demand12.{fresh-right}
 use Rattle.rules.proofs.Books.{the-books}
 use Rattle.rules.proofs.SoundAlways.{sound-always}
 use Rattle.rules.proofs.Heard.{opening, first-said, some-heard, after-more, said-more, answeredOn, answered-more, retry-heard, Begins, begins}
 use Rattle.rules.proofs.Replays.{replay-calls, replays, heard-as}
+use Rattle.rules.proofs.Reports.{report-calls, Reports, reports}
 use Rattle.rules.proofs.Results.{listed, decided-by}
 
 -- ---- one call
 
--- the calls of which it is one or several, or none if nothing can change and nothing is heard. A replay is a start afresh, and then submissions.
+-- the calls of which it is one or several, or none if nothing can change and nothing is heard. A replay is a start afresh, and then submissions,
+-- and so is a report, unless it had stopped before.
 abbrev pub callsOf : Result → List Call
 callsOf (by-fresh lent left number) = starts-afresh ∷ []
 callsOf (by-submit lent left bytes number word) = submits bytes ∷ []
 callsOf (by-replay lent left recording verdict) = replay-calls recording verdict
+callsOf (by-report lent left recording before after number entries) = report-calls before recording entries
 callsOf (by-lookup lent left looked) = []
 callsOf (by-read bytes answer) = []
 callsOf (by-write s out left number) = []
@@ -56,6 +61,13 @@ same-ledger L looked e l =
     ap₂ (λ (h t : List ℕ). setHeader h (setAsked looked t L)) (ap (λ (p : Pair). p .header) e ∙ l .0) (ap (λ (p : Pair). p .table) e ∙ l .1)
     ∙ ap (setHeader (L .header)) (same-table looked L)
 
+-- a report, on the tables that it was lent
+did-report : (L left : Ledger) (r : List ℕ) (before after : Report) (number entries : ℕ) → telling number entries after left ≡ report submit before L r
+    → Did-as (by-report L left r before after number entries) L
+did-report L left r before after number entries o =
+    subst (λ (x : Reported). Did-as (by-report L (x .left) r before (x .report) (x .number) (x .entries)) L) (sym o)
+    (let a : Reports before L r (report submit before L r) = reports before L r in record { left = a .left; heard = a .heard; answered = a .submitted })
+
 pub did-as : (e : Edition) (r : Result) (L : Ledger) → Meets e r → LentOf r L → Did-as r L
 did-as e (by-fresh lent left number) L m l =
     let o : outcome number 0 left ≡ fresh L = m .1 ∙ ap fresh l in
@@ -70,6 +82,8 @@ did-as e (by-submit lent left bytes number word) L m l =
 did-as e (by-replay lent left recording verdict) L m l =
     subst (λ (g : Gone Verdict). Did-as (by-replay lent (g .left) recording (g .found)) L) (sym (m .1 ∙ ap (λ (K : Ledger). told (replay submit K recording)) l))
     (let a = replays L recording in record { left = a .left; heard = heard-as L recording (replay submit L recording) a; answered = a .submitted })
+did-as e (by-report lent left recording before after number entries) L m l =
+    subst (Did-as (by-report lent left recording before after number entries)) l (did-report lent left recording before after number entries (m .1))
 did-as e (by-lookup lent left looked) L m l = record { left = same-ledger L looked (m .0) l; heard = refl; answered = refl }
 did-as e (by-read bytes answer) L m l = record { left = refl; heard = refl; answered = refl }
 did-as e (by-write s out left number) L m l = record { left = refl; heard = refl; answered = refl }
@@ -82,6 +96,7 @@ edition-of : (e : Edition) (r : Result) (L : Ledger) → Meets e r → LentOf r 
 edition-of e (by-fresh lent left number) L m l = inl (sym (ap (λ (K : Ledger). K .edition) l) ∙ m .0)
 edition-of e (by-submit lent left bytes number word) L m l = inl (sym (ap (λ (K : Ledger). K .edition) l) ∙ m .0)
 edition-of e (by-replay lent left recording verdict) L m l = inl (sym (ap (λ (K : Ledger). K .edition) l) ∙ m .0)
+edition-of e (by-report lent left recording before after number entries) L m l = inl (sym (ap (λ (K : Ledger). K .edition) l) ∙ m .0)
 edition-of e (by-lookup lent left looked) L m l = inr (refl, ap (λ (K : Ledger). K .edition) (same-ledger L looked (m .0) l))
 edition-of e (by-read bytes answer) L m l = inr (refl, refl)
 edition-of e (by-write s out left number) L m l = inr (refl, refl)
@@ -93,6 +108,10 @@ refused-leaves e (by-fresh lent left number) L f m l x n = absurd (omega (arith,
 refused-leaves e (by-submit lent left bytes number word) L f m l x n =
     listed e (by-submit lent left bytes number word) m .1 (λ z. n (sym (ap (λ (l : List Event). first-said f l .number) x) ∙ z)) .1 ∙ l
 refused-leaves e (by-replay lent left recording verdict) L f m l x n = absurd (omega (arith, ap opening x))
+refused-leaves e (by-report lent left recording before after number entries) L f m l x n =
+    absurd
+    (cond-case (λ (es : List Event). es ≡ (submitted f ∷ []) → ⊥) (hasNamed before) [] (begun number ∷ events (readIn lent entries recording))
+    (λ named y. omega (arith, ap opening y)) (λ unnamed y. omega (arith, ap opening y)) x)
 refused-leaves e (by-lookup lent left looked) L f m l x n = same-ledger L looked (m .0) l
 refused-leaves e (by-read bytes answer) L f m l x n = refl
 refused-leaves e (by-write s out left number) L f m l x n = refl
