@@ -6,14 +6,14 @@ ghost use lib.ListN.{length, replicate};
 ghost use Rattle.rules.specs.Ledger.{Sized, outcome, lengthsRight, fresh};
 ghost use Rattle.rules.specs.Moments.{tables, lent};
 ghost use Rattle.rules.specs.Sound.{Ready};
-ghost use Rattle.rules.specs.Submit.{submit};
+ghost use Rattle.rules.specs.Submit.{decided, submit};
 use rules::Answer;
 use rules::Edition;
+use rules::Read;
 use rules::limits::BAD_TABLE;
 use rules::limits::EDITION;
 use rules::limits::JOURNAL_LEN;
 use rules::limits::LEDGER_DAMAGED;
-use rules::limits::MALFORMED_RECORD;
 use rules::limits::MAX_ENTRIES;
 use rules::limits::MAX_ESCROWS;
 use rules::limits::MAX_RECEIPTS;
@@ -24,7 +24,7 @@ use rules::limits::WALLET_LEN;
 pub mod lookups;
 
 // Whether all five slices have right lengths.
-fn lengths_right(
+pub fn lengths_right(
     edition: Edition,
     header: &[u64],
     wallets: &[u64],
@@ -80,6 +80,32 @@ fn refused(number: u64) -> Answer
     Answer { number, word: 0 }
 }
 
+// The first half of a step: what the record is read as, and the number of its answer. Nothing is changed, so that a caller can still look at the
+// tables before it settles, or not settle at all.
+pub fn decide(
+    edition: Edition,
+    header: &[u64],
+    wallets: &[u64],
+    escrows: &[u64],
+    receipts: &[u64],
+    journal: &[u64],
+    bytes: &[u8],
+) -> Read
+    requires { ⌜ Sized edition × Ready (tables edition header wallets escrows receipts journal) ⌝ }
+    ensures { λ x. ⌜ x ≡ decided (lent edition header wallets escrows receipts journal .entry) (now (bytes .entry)) ⌝ }
+{
+    let read = record::read_record(bytes);
+    if read.number != 0 {
+        return read;
+    }
+    let s = read.submission;
+    let number = refusals::refusal(edition, header, wallets, escrows, receipts, journal, s);
+    Read {
+        number,
+        submission: s,
+    }
+}
+
 // A submission behind its first two tests. Right lengths and a sound ledger are asked of the caller here, and not tested: `submit` has just tested
 // them, and a replay has them for every entry, since a ledger started afresh is sound, and each submission leaves it so.
 pub fn step(
@@ -94,16 +120,19 @@ pub fn step(
     requires { ⌜ Sized edition × Ready (tables edition header wallets escrows receipts journal) ⌝ }
     ensures { λ x. ⌜ (let L = lent edition header wallets escrows receipts journal in outcome (x .number) (x .word) (L .exit) ≡ submit (L .entry) (now (bytes .entry))) ⌝ }
 {
-    let read = record::read_record(bytes);
-    if read.number != 0 {
-        return refused(MALFORMED_RECORD);
+    let decided = decide(edition, header, wallets, escrows, receipts, journal, bytes);
+    if decided.number != 0 {
+        return refused(decided.number);
     }
-    let s = read.submission;
-    let number = refusals::refusal(edition, header, wallets, escrows, receipts, journal, s);
-    if number != 0 {
-        return refused(number);
-    }
-    let word = settling::settle(edition, header, wallets, escrows, receipts, journal, s);
+    let word = settling::settle(
+        edition,
+        header,
+        wallets,
+        escrows,
+        receipts,
+        journal,
+        decided.submission,
+    );
     Answer { number: 0, word }
 }
 

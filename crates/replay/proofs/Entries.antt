@@ -5,7 +5,6 @@ use mathlib.Core.List.{List}
 use mathlib.Core.Bool.{true, false, _&&_}
 use mathlib.Core.Logic.{_≢_}
 use Prim.Native.Nat.{ℕ, _+_, _-_, _*_, _%_, _≤_, _<_}
-use native.Mathlib.Omega.{arith}
 use lib.Dec.{eqb}
 use lib.ListN.{getD, length, take, drop}
 use borrow.Author.Tests.{eq-eqb, ne-eqb}
@@ -20,7 +19,7 @@ use Rattle.rules.specs.declared.Answer.{Answer}
 use Rattle.rules.specs.declared.Found.{Found}
 use Rattle.rules.specs.declared.Found.the-variants.{AllAgree, CutShort, Disagrees}
 use Rattle.rules.proofs.Ready.{ready-stays}
-use Rattle.rules.proofs.Through.{Going, going-none, goes-on, stops, ends}
+use Rattle.rules.proofs.Through.{bytes-read, Going, going-none, goes-on, stops, ends}
 
 -- ---- the end
 
@@ -34,26 +33,19 @@ end-agrees r n h = rw (eq-eqb _ _ h)
 
 -- ---- an entry
 
--- the part of the recording that is submitted
-bytes-read : (r : List ℕ) (k : ℕ) → entryAt r k .bytes ≡ take (k * ENTRY-BYTES + RECORD-BYTES - k * ENTRY-BYTES) (drop (k * ENTRY-BYTES) r)
-unfolding entryAt
-bytes-read r k =
-    let e : RECORD-BYTES ≡ k * ENTRY-BYTES + RECORD-BYTES - k * ENTRY-BYTES = omega arith in
-    ap (λ (m : ℕ). take m (drop (k * ENTRY-BYTES) r)) e
-
 -- its recorded answer
 answer-read : (r : List ℕ) (k : ℕ) → answer (entryAt r k .number) (entryAt r k .word) ≡ answer (getD r (k * ENTRY-BYTES + ANSWER-AT) 0) (leAt 8 r (k * ENTRY-BYTES + WORD-AT))
 unfolding entryAt
 answer-read r k = refl
 
 -- what is said of it
-says-on : (n : ℕ) (e : Entry) (o : Outcome) → agrees e o ≡ true → compared n e o ≡ on (n + 1)
+says-on : (n : ℕ) (L : Ledger) (e : Entry) (o : Outcome) → agrees e o ≡ true → compared n L e o ≡ on (n + 1)
 unfolding compared
-says-on n e o t = rw t
+says-on n L e o t = rw t
 
-says-stop : (n : ℕ) (e : Entry) (o : Outcome) → agrees e o ≡ false → compared n e o ≡ stop (Disagrees (n + 1) (answer (e .number) (e .word)) (answer (o .number) (o .word)))
+says-stop : (n : ℕ) (L : Ledger) (e : Entry) (o : Outcome) → agrees e o ≡ false → compared n L e o ≡ stop (Disagrees (n + 1) (answer (e .number) (e .word)) (answer (o .number) (o .word)))
 unfolding compared
-says-stop n e o t = rw t
+says-stop n L e o t = rw t
 
 -- ---- the loop
 
@@ -87,7 +79,7 @@ module _ (r : List ℕ) {first : Ledger} (k : ℕ) {L : Ledger} (replaying : Rep
 
   pub one-more : Sized (L .edition) → eqb (recorded .number) (answered .number) && eqb (recorded .word) (answered .word) ≡ true → Replaying r first (k + 1) left
   one-more sized t = record {
-    going = goes-on submit compared (ended (cutShort r)) r k (replaying .going) h o (k + 1) is-given (says-on k (entryAt r k) o (same-test ∙ t));
+    going = goes-on submit compared (ended (cutShort r)) r k (replaying .going) h o (k + 1) is-given (says-on k L (entryAt r k) o (same-test ∙ t));
     ready = subst (λ (x : Outcome). Ready (x .left)) (sym is-given) (ready-stays L (sized .header) (sized .escrow) (replaying .ready) (entryAt r k .bytes));
   }
 
@@ -95,7 +87,7 @@ module _ (r : List ℕ) {first : Ledger} (k : ℕ) {L : Ledger} (replaying : Rep
       → gone (Disagrees (k + 1) recorded answered) left ≡ replayOn submit first r
   disagrees t =
       ap (λ (a : Answer). gone (Disagrees (k + 1) a answered) left) (sym is-read)
-      ∙ stops submit compared (ended (cutShort r)) r k (replaying .going) h o _ is-given (says-stop k (entryAt r k) o (same-test ∙ t))
+      ∙ stops submit compared (ended (cutShort r)) r k (replaying .going) h o _ is-given (says-stop k L (entryAt r k) o (same-test ∙ t))
 
 pub all-done : (r : List ℕ) {first : Ledger} (k : ℕ) {L : Ledger} {x : Found} → Replaying r first k L → wholeEntries r ≤ k → x ≡ ended (cutShort r) k
     → gone x L ≡ replayOn submit first r
