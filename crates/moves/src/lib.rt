@@ -175,7 +175,7 @@ pub fn close_receipt(
 }
 
 // Whether an escrow is open and not stale.
-fn is_releasable(edition: Edition, escrows: &[u64], number: EscrowNumber, time: u64) -> bool
+pub fn is_releasable(edition: Edition, escrows: &[u64], number: EscrowNumber, time: u64) -> bool
     requires { ⌜ Names (number .0) × (edition .escrow < 2 ^ 16) ⌝ }
     ensures { λ x. ⌜ ((K : Ledger) → let L = any K of-edition edition with-escrows escrows in x ≡ releasable (L .entry) time (number .0 - 1)) ⌝ }
 {

@@ -34,13 +34,13 @@ written-named : (n k : ℕ) → written n k ≡ true → n ≤ 2 ^ 32 → Names 
 written-named n k x small = record { low = written-low n k x; high = le-trans (written-high n k x) small }
 
 module _ (ed : Edition) (h w e r j : List ℕ) (s : Submission) (p : Settles (ledgerOf ed h w e r j) s) where
-  abbrev L : Ledger
+  abbrev pub L : Ledger
   L = ledgerOf ed h w e r j
 
-  abbrev read : Read
+  abbrev pub read : Read
   read = record { number = 0; submission = s }
 
-  answered : answerOf L read ≡ 0
+  pub answered : answerOf L read ≡ 0
   unfolding entryRefusals
   answered = entry-pass L read (rw (p .ready .lengths, p .ready .sound)) ∙ p .passed
 

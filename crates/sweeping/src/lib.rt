@@ -33,7 +33,7 @@ ghost use Rattle.sweeping.specs.Needs.{underWay, Expires, Sweeping, Expi
 const NOBODY: u64 = 0;
 
 // Whether a row is due: it is still waiting, and its deadline is before now. One test for receipts and escrows, over their words.
-fn is_due(state: u64, waiting: u64, deadline: u64, time: u64) -> bool
+pub fn is_due(state: u64, waiting: u64, deadline: u64, time: u64) -> bool
     ensures { λ x. ⌜ x ≡ (eqb state waiting && ltb deadline time) ⌝ }
 {
     (state == waiting) & (deadline < time)
