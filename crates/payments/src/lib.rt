@@ -25,7 +25,7 @@ use rules::limits::TX_CAP;
 use rules::limits::WALLET_LEN;
 use rules::limits::WALLETS;
 
-mod sums;
+pub mod sums;
 
 // A grant: checks 12, 15, 36, 37, 40.
 pub fn grant_refusal(header: &[u64], wallets: &[u64], journal: &[u64], s: Submission) -> u64

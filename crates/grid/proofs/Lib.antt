@@ -1,0 +1,2 @@
+-- What the grid and its figures rest on.
+pub mod Laws
