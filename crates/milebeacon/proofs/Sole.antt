@@ -7,6 +7,7 @@ use denote.Ref.{now}
 use Rattle.rules.specs.Ledger.{Outcome, outcome}
 use Rattle.rules.specs.Record.{Written}
 use Rattle.rules.specs.Replay.{Gone, gone}
+use Rattle.rules.specs.Report.{Reported, reportOf, telling}
 use Rattle.rules.specs.Results.{Sole, Pair, pair}
 use Rattle.rules.specs.declared.Read.{Read}
 use Rattle.rules.specs.declared.Verdict.{Verdict}
@@ -28,6 +29,8 @@ use Rattle.milebeacon.proofs.milebeacon_escrow_place.Kinds as escrow-pl
 use Rattle.milebeacon.proofs.milebeacon_escrow_place.Reads as escrow-place-reads
 use Rattle.milebeacon.proofs.milebeacon_receipt_place.Kinds as receipt-place-kinds
 use Rattle.milebeacon.proofs.milebeacon_receipt_place.Reads as receipt-place-reads
+use Rattle.milebeacon.proofs.milebeacon_report.Kinds as report-kinds
+use Rattle.milebeacon.proofs.milebeacon_report.Reads as report-reads
 use Rattle.milebeacon.proofs.milebeacon_replay.Kinds as replay-kinds
 use Rattle.milebeacon.proofs.milebeacon_replay.Reads as replay-reads
 
@@ -58,3 +61,11 @@ sole-receipt-place κs a x y v w p q = ap (λ (n : ℕ). (n, pair (now (a .0)) (
 
 pub sole-replay : Sole replay-kinds.ps replay-kinds.r replay-reads.Learnt (Gone Verdict) (λ κs x e. gone x (five e))
 sole-replay κs a x y v w p q = one p q
+
+-- what is told, the report and the five tables as they are left
+pub sole-report :
+    Sole report-kinds.ps report-kinds.r report-reads.Learnt Reported
+    (λ κs x e.
+    telling (x .number) (x .entries)
+    (reportOf (now (e .1 .1 .1 .1 .1 .1 .0)) (now (e .1 .1 .1 .1 .1 .1 .1 .0)) (now (e .1 .1 .1 .1 .1 .1 .1 .1 .0))) (five e))
+sole-report κs a x y v w p q = one p q

@@ -4,7 +4,8 @@ use mathlib.Core.Path.{refl}
 use lib.Dec.{lit<, lit≤}
 use denote.Ref.{now}
 use Rattle.rules.specs.Ledger.{first-edition}
-use Rattle.rules.specs.Results.{Ran, exits, Result, by-fresh, by-submit, by-replay, by-lookup, wallet-number, escrow-place, receipt-place, by-read, by-write, by-status, Meets}
+use Rattle.rules.specs.Report.{reportOf}
+use Rattle.rules.specs.Results.{Ran, exits, Result, by-fresh, by-submit, by-replay, by-report, by-lookup, wallet-number, escrow-place, receipt-place, by-read, by-write, by-status, Meets}
 use Rattle.rules.specs.Runs.{Surface, Calls-are-listed, Calls-decide, Runs-add-up, Runs-refuse-retries, Retries-change-nothing, Runs-recordings-agree}
 use Rattle.rules.proofs.Runs.{calls-are-listed, calls-decide, runs-add-up, runs-refuse-retries, retries-change-nothing}
 use Rattle.rules.proofs.Recorded.{runs-recordings-agree}
@@ -15,6 +16,8 @@ use Rattle.milebeacon.proofs.milebeacon_submit.Kinds as submit-kinds
 use Rattle.milebeacon.proofs.milebeacon_submit.Reads as submit-reads
 use Rattle.milebeacon.proofs.milebeacon_replay.Kinds as replay-kinds
 use Rattle.milebeacon.proofs.milebeacon_replay.Reads as replay-reads
+use Rattle.milebeacon.proofs.milebeacon_report.Kinds as report-kinds
+use Rattle.milebeacon.proofs.milebeacon_report.Reads as report-reads
 use Rattle.milebeacon.proofs.milebeacon_read.Kinds as read-kinds
 use Rattle.milebeacon.proofs.milebeacon_read.Reads as read-reads
 use Rattle.milebeacon.proofs.milebeacon_write.Kinds as write-kinds
@@ -33,6 +36,7 @@ pub data Did : Type 0 where
   did-fresh : Ran fresh-kinds.ps fresh-kinds.r fresh-reads.Learnt → Did
   did-submit : Ran submit-kinds.ps submit-kinds.r submit-reads.Learnt → Did
   did-replay : Ran replay-kinds.ps replay-kinds.r replay-reads.Learnt → Did
+  did-report : Ran report-kinds.ps report-kinds.r report-reads.Learnt → Did
   did-read : Ran read-kinds.ps read-kinds.r read-reads.Learnt → Did
   did-write : Ran write-kinds.ps write-kinds.r write-reads.Learnt → Did
   did-status : Ran status-kinds.ps status-kinds.r status-reads.Learnt → Did
@@ -45,6 +49,13 @@ abbrev pub shows : Did → Result
 shows (did-fresh x) = by-fresh (five (x .args)) (five (exits x)) (x .answer)
 shows (did-submit x) = by-submit (five (x .args)) (five (exits x)) (now (x .args .1 .1 .1 .1 .1 .0)) (x .answer .number) (x .answer .word)
 shows (did-replay x) = by-replay (five (x .args)) (five (exits x)) (now (x .args .1 .1 .1 .1 .1 .0)) (x .answer)
+shows (did-report x) =
+    let lent = x .args .1 .1 .1 .1 .1 in
+    let left = exits x .1 .1 .1 .1 .1 in
+    by-report (five (x .args)) (five (exits x)) (now (lent .0))
+    (reportOf (now (lent .1 .0)) (now (lent .1 .1 .0)) (now (lent .1 .1 .1 .0)))
+    (reportOf (now (left .1 .0)) (now (left .1 .1 .0)) (now (left .1 .1 .1 .0)))
+    (x .answer .number) (x .answer .entries)
 shows (did-read x) = by-read (now (x .args .0)) (x .answer)
 shows (did-write x) = by-write (x .args .0) (now (x .args .1 .0)) (now (exits x .1 .0)) (x .answer)
 shows (did-status x) = by-status (x .args .0) (x .answer)
@@ -57,6 +68,7 @@ pub meets : (d : Did) → Meets first-edition (shows d)
 meets (did-fresh x) = (refl, x .meets)
 meets (did-submit x) = (refl, x .meets)
 meets (did-replay x) = (refl, x .meets)
+meets (did-report x) = (refl, x .meets)
 meets (did-read x) = x .meets
 meets (did-write x) = x .meets
 meets (did-status x) = x .meets

@@ -6,6 +6,7 @@ ghost use Rattle.rules.specs.Lookup.{escrowPlace, receiptPlace, walletNumber};
 ghost use Rattle.rules.specs.Moments.{lent};
 ghost use Rattle.rules.specs.Record.{Written, readOf, writeOf};
 ghost use Rattle.rules.specs.Replay.{gone, told, replay};
+ghost use Rattle.rules.specs.Report.{reportOf, telling, report};
 ghost use Rattle.rules.specs.Status.{statusOf};
 ghost use Rattle.rules.specs.Submit.{submit};
 use rules::Answer;
@@ -13,8 +14,16 @@ use rules::EscrowNumber;
 use rules::Read;
 use rules::ReceiptNumber;
 use rules::Submission;
+use rules::Told;
 use rules::Verdict;
 use rules::WalletNumber;
+use rules::limits::ANSWERS;
+use rules::limits::FIGURES;
+use rules::limits::GRID_ROWS;
+use rules::limits::NAMED;
+use rules::limits::TOLD;
+use rules::limits::TOLD_ENTRIES;
+use rules::limits::TOLD_NUMBER;
 
 // A submission over the five lent tables: its answer, and the tables as document 01 lays them down; a refusal changes nothing.
 #[no_mangle]
@@ -115,4 +124,41 @@ pub extern "C" fn milebeacon_replay(
 {
     let found = replay::replay(header, wallets, escrows, receipts, journal, recording);
     replay::verdict(found)
+}
+
+// Adds a recording to a month's report, on the lent tables, started afresh: the answer and how many entries were read, the grid, the figures and what is
+// named as the report then has them, and the tables as after the last entry read. An array cannot cross this boundary by value: the grid is lent.
+#[no_mangle]
+pub extern "C" fn milebeacon_report(
+    header: &mut [u64],
+    wallets: &mut [u64],
+    escrows: &mut [u64],
+    receipts: &mut [u64],
+    journal: &mut [u64],
+    recording: &[u8],
+    grid: &mut [[u64; ANSWERS]; GRID_ROWS],
+    figures: &mut [u64; FIGURES],
+    named: &mut [u64; NAMED],
+) -> Told
+    ensures { λ x. ⌜ (let L = lent first-edition header wallets escrows receipts journal in telling (x .number) (x .entries) (reportOf (now (grid .exit)) (now (figures .exit)) (now (named .exit))) (L .exit) ≡ report submit (reportOf (now (grid .entry)) (now (figures .entry)) (now (named .entry))) (L .entry) (now (recording .entry))) ⌝ }
+{
+    let before = *grid;
+    let mut told = [0u64; TOLD];
+    let after = report::report(
+        header,
+        wallets,
+        escrows,
+        receipts,
+        journal,
+        recording,
+        before,
+        figures,
+        named,
+        &mut told,
+    );
+    *grid = after;
+    Told {
+        number: told[TOLD_NUMBER],
+        entries: told[TOLD_ENTRIES],
+    }
 }

@@ -1,0 +1,2 @@
+-- What the report's contracts cite.
+pub mod Turn
