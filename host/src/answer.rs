@@ -91,6 +91,19 @@ refusals! {
     40 JournalTableFull "journal_table_full" "the journal is full";
 }
 
+/// How many answers there are, settled and each refusal: the columns of a
+/// [report](crate::Report)'s grid. A later refusal widens the grid by its line above.
+pub const ANSWERS: usize = Refusal::ALL.len() + 1;
+
+// none has a number beyond them, whatever the order of the checks
+const _: () = {
+    let mut place = 0;
+    while place < Refusal::ALL.len() {
+        assert!((Refusal::ALL[place] as usize) < ANSWERS);
+        place += 1;
+    }
+};
+
 impl Refusal {
     /// Its number in the rules, 1 to 40.
     pub fn number(self) -> u64 {

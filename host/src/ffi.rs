@@ -7,7 +7,9 @@
 
 #![allow(unsafe_code)]
 
+use crate::answer::ANSWERS;
 use crate::numbers::{EscrowNumber, ReceiptNumber, WalletNumber};
+use crate::operation::GRID_ROWS;
 use crate::submission::Submission;
 use crate::tables::Tables;
 
@@ -55,52 +57,88 @@ pub const CUT_SHORT: u64 = 2;
 /// The last entry replayed has another answer or word than the core gives.
 pub const DISAGREES: u64 = 3;
 
-// Two bytes, six of padding, and thirteen words, as the archive has them; seven words of a verdict.
+/// What `milebeacon_report` tells.
+#[repr(C)]
+#[derive(Clone, Copy, Debug, PartialEq, Eq)]
+pub struct Told {
+    /// 0, or 1 for tables of a wrong length.
+    pub number: u64,
+    /// How many entries were counted.
+    pub entries: u64,
+}
+
+/// A report's counts: rows by operation, row 0 for records of none, and in each a column for every
+/// answer.
+pub type Grid = [[u64; ANSWERS]; GRID_ROWS];
+/// A report's credits: granted, transferred, released, refunded and expired.
+pub type Figures = [u64; 5];
+/// What a report has named: a figure, counted from 1, the grid's cell being the last, or 0 for none;
+/// and the row and the column of the entry that it stopped before.
+pub type Named = [u64; 3];
+
+// Two bytes, six of padding, and thirteen words, as the archive has them; seven words of a verdict;
+// the rows and columns of a grid, which the archive writes to.
 const _: () = assert!(std::mem::size_of::<Submission>() == 112);
 const _: () = assert!(std::mem::size_of::<Read>() == 120);
 const _: () = assert!(std::mem::size_of::<Verdict>() == 56);
+const _: () = assert!(GRID_ROWS == 12 && ANSWERS == 41);
 
-extern "C" {
-    fn milebeacon_submit(
-        header: *mut u64,
-        header_len: usize,
-        wallets: *mut u64,
-        wallets_len: usize,
-        escrows: *mut u64,
-        escrows_len: usize,
-        receipts: *mut u64,
-        receipts_len: usize,
-        journal: *mut u64,
-        journal_len: usize,
-        record: *const u8,
-        record_len: usize,
-    ) -> Answer;
-    fn milebeacon_fresh(
-        header: *mut u64,
-        header_len: usize,
-        wallets: *mut u64,
-        wallets_len: usize,
-        escrows: *mut u64,
-        escrows_len: usize,
-        receipts: *mut u64,
-        receipts_len: usize,
-        journal: *mut u64,
-        journal_len: usize,
-    ) -> u64;
-    fn milebeacon_replay(
-        header: *mut u64,
-        header_len: usize,
-        wallets: *mut u64,
-        wallets_len: usize,
-        escrows: *mut u64,
-        escrows_len: usize,
-        receipts: *mut u64,
-        receipts_len: usize,
-        journal: *mut u64,
-        journal_len: usize,
+/// Declares entry points that are lent the five tables, which come before what else is named.
+macro_rules! lent_tables {
+    ($(fn $name:ident($($argument:ident: $kind:ty),*) -> $answer:ty;)*) => {
+        extern "C" {
+            $(
+                fn $name(
+                    header: *mut u64,
+                    header_len: usize,
+                    wallets: *mut u64,
+                    wallets_len: usize,
+                    escrows: *mut u64,
+                    escrows_len: usize,
+                    receipts: *mut u64,
+                    receipts_len: usize,
+                    journal: *mut u64,
+                    journal_len: usize,
+                    $($argument: $kind),*
+                ) -> $answer;
+            )*
+        }
+    };
+}
+
+/// Calls one of them with these tables, in the order of its declaration.
+macro_rules! lend {
+    ($lent:ident to $name:ident($($argument:expr),*)) => {
+        $name(
+            $lent.header.as_mut_ptr(),
+            $lent.header.len(),
+            $lent.wallets.as_mut_ptr(),
+            $lent.wallets.len(),
+            $lent.escrows.as_mut_ptr(),
+            $lent.escrows.len(),
+            $lent.receipts.as_mut_ptr(),
+            $lent.receipts.len(),
+            $lent.journal.as_mut_ptr(),
+            $lent.journal.len(),
+            $($argument),*
+        )
+    };
+}
+
+lent_tables! {
+    fn milebeacon_submit(record: *const u8, record_len: usize) -> Answer;
+    fn milebeacon_fresh() -> u64;
+    fn milebeacon_replay(recording: *const u8, recording_len: usize) -> Verdict;
+    fn milebeacon_report(
         recording: *const u8,
         recording_len: usize,
-    ) -> Verdict;
+        grid: *mut Grid,
+        figures: *mut Figures,
+        named: *mut Named
+    ) -> Told;
+}
+
+extern "C" {
     fn milebeacon_read(record: *const u8, record_len: usize) -> Read;
     fn milebeacon_write(submission: Submission, out: *mut u8, out_len: usize) -> u64;
     fn milebeacon_status(number: u64) -> u64;
@@ -132,41 +170,13 @@ pub fn submit(lent: Tables<&mut [u64]>, record: &[u8]) -> Answer {
     // SAFETY: each pointer and count are those of a live slice. The five tables are borrowed
     // mutably, so none overlaps another or the record; the archive reads and writes within them
     // only, and keeps none of them.
-    unsafe {
-        milebeacon_submit(
-            lent.header.as_mut_ptr(),
-            lent.header.len(),
-            lent.wallets.as_mut_ptr(),
-            lent.wallets.len(),
-            lent.escrows.as_mut_ptr(),
-            lent.escrows.len(),
-            lent.receipts.as_mut_ptr(),
-            lent.receipts.len(),
-            lent.journal.as_mut_ptr(),
-            lent.journal.len(),
-            record.as_ptr(),
-            record.len(),
-        )
-    }
+    unsafe { lend!(lent to milebeacon_submit(record.as_ptr(), record.len())) }
 }
 
 /// Starts the lent tables afresh: 0, or 1 for a wrong length.
 pub fn fresh(lent: Tables<&mut [u64]>) -> u64 {
     // SAFETY: as for `submit`; there is no record.
-    unsafe {
-        milebeacon_fresh(
-            lent.header.as_mut_ptr(),
-            lent.header.len(),
-            lent.wallets.as_mut_ptr(),
-            lent.wallets.len(),
-            lent.escrows.as_mut_ptr(),
-            lent.escrows.len(),
-            lent.receipts.as_mut_ptr(),
-            lent.receipts.len(),
-            lent.journal.as_mut_ptr(),
-            lent.journal.len(),
-        )
-    }
+    unsafe { lend!(lent to milebeacon_fresh()) }
 }
 
 /// Starts the lent tables afresh, submits the whole entries of the recording one after the other and
@@ -174,21 +184,29 @@ pub fn fresh(lent: Tables<&mut [u64]>) -> u64 {
 pub fn replay(lent: Tables<&mut [u64]>, recording: &[u8]) -> Verdict {
     // SAFETY: as for `submit`, with the recording, which is only read, in the record's place. Every
     // value of the returned struct is a number.
+    unsafe { lend!(lent to milebeacon_replay(recording.as_ptr(), recording.len())) }
+}
+
+/// Adds a recording to a report: starts the lent tables afresh, submits the whole entries one after
+/// the other and counts each by its answer, up to one with which a figure would pass 2^64 - 1. A
+/// report that has named a figure stays as it is, and the tables too.
+pub fn report(
+    lent: Tables<&mut [u64]>,
+    recording: &[u8],
+    grid: &mut Grid,
+    figures: &mut Figures,
+    named: &mut Named,
+) -> Told {
+    // SAFETY: as for `replay`. The three arrays have the archive's lengths, and they are borrowed
+    // mutably, so none overlaps anything else; the archive keeps none of them.
     unsafe {
-        milebeacon_replay(
-            lent.header.as_mut_ptr(),
-            lent.header.len(),
-            lent.wallets.as_mut_ptr(),
-            lent.wallets.len(),
-            lent.escrows.as_mut_ptr(),
-            lent.escrows.len(),
-            lent.receipts.as_mut_ptr(),
-            lent.receipts.len(),
-            lent.journal.as_mut_ptr(),
-            lent.journal.len(),
+        lend!(lent to milebeacon_report(
             recording.as_ptr(),
             recording.len(),
-        )
+            grid,
+            figures,
+            named
+        ))
     }
 }
 

@@ -29,7 +29,9 @@
 //! ```
 //!
 //! A host keeps a [`Recording`] of what it submitted and was answered: a [`Recorder`] writes it while
-//! the ledger settles, and [`Ledger::replay`] says whether the core gives the same answers again.
+//! the ledger settles, and [`Ledger::replay`] says whether the core gives the same answers again. A
+//! [`Report`] counts the entries of any number of recordings by operation and answer, and adds up the
+//! credits that they moved.
 
 #![deny(unsafe_code)]
 #![warn(missing_docs)]
@@ -38,6 +40,7 @@ mod answer;
 mod entry;
 mod envelope;
 pub mod ffi;
+mod figure;
 mod ledger;
 pub mod lookup;
 mod numbers;
@@ -46,20 +49,23 @@ mod record;
 mod recorder;
 mod recording;
 mod replay;
+mod report;
 mod rows;
 mod submission;
 mod tables;
 
-pub use answer::{status, Answer, Refusal};
+pub use answer::{status, Answer, Refusal, ANSWERS};
 pub use entry::{Entries, Entry, Recorded, ENTRY_BYTES};
 pub use envelope::Envelope;
+pub use figure::{Cell, Figure, Named};
 pub use ledger::Ledger;
 pub use numbers::{EscrowNumber, ReceiptNumber, WalletNumber};
-pub use operation::Operation;
+pub use operation::{Operation, GRID_ROWS};
 pub use record::{Record, RECORD_BYTES};
 pub use recorder::{Recorder, Unrecorded};
 pub use recording::{CutShort, Recording};
 pub use replay::Replay;
+pub use report::{Added, Report};
 pub use rows::{EscrowRow, EscrowState, JournalRow, ReceiptRow, ReceiptState, WalletRow};
 pub use submission::{Claim, Freezable, Submission};
 pub use tables::{Sizes, Tables, HEADER_WORDS};

@@ -50,6 +50,19 @@ operations! {
     11 Caps "caps" "An admin sets a wallet's caps.";
 }
 
+/// The rows of a [report](crate::Report)'s grid: row 0, and one for each operation's number. A later
+/// operation widens the grid by its line above.
+pub const GRID_ROWS: usize = Operation::ALL[Operation::ALL.len() - 1] as usize + 1;
+
+// they stand in the order of their numbers, so the last has the highest
+const _: () = {
+    let mut place = 1;
+    while place < Operation::ALL.len() {
+        assert!((Operation::ALL[place - 1] as usize) < Operation::ALL[place] as usize);
+        place += 1;
+    }
+};
+
 impl Operation {
     /// Its number in a record, 1 to 11.
     pub fn number(self) -> u8 {
