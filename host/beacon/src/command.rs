@@ -7,7 +7,7 @@ use clap::{Arg, ArgAction, ArgMatches, Command};
 use milebeacon::Operation;
 
 use crate::problem::Problem;
-use crate::{explain, record, replay, run, sizes};
+use crate::{explain, record, replay, report, run, sizes};
 
 /// Does what the words ask for. What is to be printed goes to `output`.
 pub fn dispatch(
@@ -33,8 +33,9 @@ pub fn dispatch(
         Some(("replay", matches)) => {
             replay::replay(file(matches), sizes::asked_for(matches), output)
         }
+        Some(("report", matches)) => report::report(matches, output),
         _ => Err(Problem::Usage(
-            "say record, explain, run or replay; --help tells more".to_owned(),
+            "say record, explain, run, replay or report; --help tells more".to_owned(),
         )),
     }
 }
@@ -53,7 +54,7 @@ fn command() -> Command {
     };
     Command::new("beacon")
         .version("0.1.0")
-        .about("Writes, explains and settles submission records, and replays recordings")
+        .about("Writes, explains and settles submission records; replays and counts recordings")
         .disable_help_subcommand(true)
         .subcommand(record_command())
         .subcommand(
@@ -74,6 +75,7 @@ fn command() -> Command {
                 )),
         ))
         .subcommand(replay_command())
+        .subcommand(report::command())
 }
 
 fn replay_command() -> Command {
@@ -126,7 +128,7 @@ fn maybe(name: &'static str, help: &'static str) -> Arg {
         .help(help)
 }
 
-fn flag(name: &'static str, help: &'static str) -> Arg {
+pub fn flag(name: &'static str, help: &'static str) -> Arg {
     Arg::new(name)
         .long(name)
         .action(ArgAction::SetTrue)

@@ -18,6 +18,16 @@ pub fn read(path: &str) -> Result<Vec<u8>, Problem> {
     fs::read(path).map_err(|error| Problem::io(format_args!("cannot read {path}"), &error))
 }
 
+/// Whether there is such a file, so that a wrong name is told before any work is done. It may turn
+/// out later that it cannot be read.
+pub fn look_for(path: &str) -> Result<(), Problem> {
+    if path == "-" {
+        return Ok(());
+    }
+    let found = fs::metadata(path).map(|_| ());
+    found.map_err(|error| Problem::io(format_args!("cannot read {path}"), &error))
+}
+
 /// Adds the bytes to the end of the file, or makes it.
 pub fn append(path: &str, bytes: &[u8]) -> Result<(), Problem> {
     let problem = |error: io::Error| Problem::io(format_args!("cannot write {path}"), &error);

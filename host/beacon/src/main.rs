@@ -1,18 +1,22 @@
-//! `beacon`: writes, explains and settles submission records, and replays recordings of them.
+//! `beacon`: writes, explains and settles submission records, replays recordings of them and counts
+//! what they hold.
 //!
 //! Bad input gets one line on standard error and a status that is not 0: 2 for a command that makes
 //! no sense, 1 for everything else. A replay that does not agree is a finding, with a status of its
-//! own.
+//! own, and so is a report that stops.
 
 #![forbid(unsafe_code)]
 
 mod command;
+mod counts;
+mod csv;
 mod explain;
 mod files;
 mod log;
 mod problem;
 mod record;
 mod replay;
+mod report;
 mod run;
 mod show;
 mod sizes;

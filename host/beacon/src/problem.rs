@@ -4,6 +4,8 @@ use std::fmt;
 use std::io;
 use std::process::ExitCode;
 
+use crate::report::STOPPED;
+
 /// One line for the person who gave the command.
 #[derive(Debug)]
 pub enum Problem {
@@ -11,6 +13,8 @@ pub enum Problem {
     Usage(String),
     /// The command is clear, but what it is about is wrong.
     Input(String),
+    /// A report stopped, and is printed as far as it goes.
+    Stopped(String),
 }
 
 impl Problem {
@@ -24,6 +28,7 @@ impl Problem {
         match self {
             Problem::Usage(_) => ExitCode::from(2),
             Problem::Input(_) => ExitCode::FAILURE,
+            Problem::Stopped(_) => ExitCode::from(STOPPED),
         }
     }
 }
@@ -31,7 +36,9 @@ impl Problem {
 impl fmt::Display for Problem {
     fn fmt(&self, f: &mut fmt::Formatter<'_>) -> fmt::Result {
         match self {
-            Problem::Usage(line) | Problem::Input(line) => f.write_str(line),
+            Problem::Usage(line) | Problem::Input(line) | Problem::Stopped(line) => {
+                f.write_str(line)
+            }
         }
     }
 }

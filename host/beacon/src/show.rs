@@ -4,7 +4,12 @@ const DAY_MS: u64 = 86_400_000;
 
 /// An amount of micro-credits, in groups of three digits.
 pub fn credits(amount: u64) -> String {
-    let digits = amount.to_string();
+    grouped(amount)
+}
+
+/// A number, in groups of three digits.
+pub fn grouped(number: impl Into<u128>) -> String {
+    let digits = number.into().to_string();
     let mut grouped = String::new();
     for (place, digit) in digits.chars().enumerate() {
         if place > 0 && (digits.len() - place) % 3 == 0 {
@@ -44,6 +49,11 @@ pub fn moment(ms: u64) -> String {
 /// A table: a title, the columns' names, and rows. Columns are as wide as they need to be, and
 /// aligned to the right.
 pub fn table(title: &str, names: &[&str], rows: &[Vec<String>]) -> String {
+    table_of_words(title, 0, names, rows)
+}
+
+/// The same, with the first few columns aligned to the left, as words are.
+pub fn table_of_words(title: &str, words: usize, names: &[&str], rows: &[Vec<String>]) -> String {
     if rows.is_empty() {
         return format!("\n{title}: none\n");
     }
@@ -56,9 +66,12 @@ pub fn table(title: &str, names: &[&str], rows: &[Vec<String>]) -> String {
     };
     let widths: Vec<usize> = (0..names.len()).map(width).collect();
     let line = |cells: &mut dyn Iterator<Item = &str>| {
-        let padded: Vec<String> = cells
-            .zip(&widths)
-            .map(|(cell, width)| format!("{cell:>width$}"))
+        let padded: Vec<String> = (0..)
+            .zip(cells.zip(&widths))
+            .map(|(place, (cell, width))| match place < words {
+                true => format!("{cell:<width$}"),
+                false => format!("{cell:>width$}"),
+            })
             .collect();
         format!("  {}\n", padded.join("  "))
     };
@@ -72,7 +85,7 @@ pub fn table(title: &str, names: &[&str], rows: &[Vec<String>]) -> String {
 
 #[cfg(test)]
 mod tests {
-    use super::{credits, moment, table};
+    use super::{credits, grouped, moment, table, table_of_words};
 
     #[test]
     fn digits_are_grouped() {
@@ -86,6 +99,7 @@ mod tests {
             "18,446,744,073,709,551,615",
         ];
         assert_eq!(shown, expected);
+        assert_eq!(grouped(1_u128 << 64), "18,446,744,073,709,551,616");
     }
 
     #[test]
@@ -115,6 +129,11 @@ mod tests {
         assert_eq!(
             shown,
             "\nthings\n  no.   size\n    1  1,000\n   12      5\n"
+        );
+        let shown = table_of_words("things", 1, &["no.", "size"], &rows);
+        assert_eq!(
+            shown,
+            "\nthings\n  no.   size\n  1    1,000\n  12       5\n"
         );
         assert_eq!(table("things", &["no."], &[]), "\nthings: none\n");
     }

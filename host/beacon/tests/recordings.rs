@@ -8,7 +8,9 @@ use std::process::Stdio;
 
 use milebeacon::{Entries, Recorded, Submission, ENTRY_BYTES, RECORD_BYTES};
 
-use tool::{beacon, beacon_in_little_room, fails, file, first_records, output, succeeds, text};
+use tool::{
+    beacon, beacon_in_little_room, fails, file, first_records, output, succeeds, text, written,
+};
 
 /// P1 to P3, settled and recorded.
 fn first_recording(name: &str) -> String {
@@ -24,13 +26,6 @@ fn finds(words: &[&str], status: i32) -> String {
     assert_eq!(text(&found.stderr), "", "{words:?}");
     assert_eq!(found.status.code(), Some(status), "{words:?}");
     text(&found.stdout).to_owned()
-}
-
-/// Another recording, of these bytes.
-fn written(name: &str, bytes: &[u8]) -> String {
-    let path = file(name);
-    fs::write(&path, bytes).expect("written");
-    path
 }
 
 #[test]

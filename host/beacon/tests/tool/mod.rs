@@ -8,6 +8,8 @@ use std::fs;
 use std::path::PathBuf;
 use std::process::{Command, Output, Stdio};
 
+use milebeacon::{Envelope, EscrowNumber, Submission, ENTRY_BYTES, RECORD_BYTES};
+
 /// The tool, under the emulator where there is one.
 pub fn beacon(words: &[&str]) -> Command {
     let mut line = tool_line();
@@ -80,4 +82,45 @@ pub fn first_records(name: &str) -> String {
         assert_eq!(succeeds(&words), b"");
     }
     path
+}
+
+/// A recording of these bytes.
+pub fn written(name: &str, bytes: &[u8]) -> String {
+    let path = file(name);
+    fs::write(&path, bytes).expect("written");
+    path
+}
+
+/// A recording of these submissions. Its answers are anything, as nobody looks at them.
+pub fn recording(name: &str, submissions: &[Submission]) -> String {
+    let mut bytes = Vec::new();
+    for submission in submissions {
+        bytes.extend_from_slice(&submission.to_record().expect("well formed"));
+        bytes.extend_from_slice(&[0xA5; ENTRY_BYTES - RECORD_BYTES]);
+    }
+    written(name, &bytes)
+}
+
+/// A grant, an open that is sent twice and released, another that is refunded, one that expires, and
+/// transfers.
+pub fn busy(name: &str) -> String {
+    let seven = |nonce| Envelope::new(1_000, 7, nonce);
+    let open = Submission::open(seven(1), 8, 20_000_000, 2_000);
+    let grant = Submission::grant(Envelope::new(1_000, 1, 1).by_admin(), 7, 50_000_000);
+    recording(
+        name,
+        &[
+            grant,
+            open,
+            open,
+            Submission::release(seven(2), EscrowNumber(1)),
+            Submission::open(seven(3), 8, 1_000, 2_000),
+            Submission::refund(seven(4), EscrowNumber(2)),
+            Submission::open(seven(5), 8, 200, 2_000),
+            Submission::transfer(seven(6), 8, 300),
+            Submission::transfer(seven(7), 9, 400),
+            Submission::transfer(seven(8), 9, 0),
+            Submission::sweep(2_001, 10),
+        ],
+    )
 }
