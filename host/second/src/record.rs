@@ -8,6 +8,9 @@ pub const RECORD_BYTES: usize = 108;
 
 const MARK: [u8; 2] = [0xA7, 0x3C];
 
+/// The place of the operation: after the mark.
+pub const OPERATION_BYTE: usize = 2;
+
 /// Flag bit 0, "signature held".
 pub const SIGNATURE: u8 = 1;
 /// Flag bit 1, "signer is an admin".
@@ -58,7 +61,7 @@ pub enum Operation {
 }
 
 impl Operation {
-    fn numbered(number: u8) -> Option<Operation> {
+    pub fn numbered(number: u8) -> Option<Operation> {
         Some(match number {
             1 => Operation::Grant,
             2 => Operation::Transfer,
@@ -195,7 +198,7 @@ pub fn parse(record: &[u8]) -> Option<(Operation, Submission)> {
         *word = u64::from_le_bytes(group);
     }
     let submission = Submission {
-        op: record[2],
+        op: record[OPERATION_BYTE],
         flags: record[3],
         now: words[0],
         signer: words[1],
@@ -227,7 +230,7 @@ pub fn write(submission: &Submission, out: &mut [u8]) -> u64 {
     }
     let s = submission;
     out[..2].copy_from_slice(&MARK);
-    out[2] = s.op;
+    out[OPERATION_BYTE] = s.op;
     out[3] = s.flags;
     let [first, second, third, fourth] = s.hash;
     let words = [
