@@ -10,7 +10,7 @@
 //! - [`twin`] does the calls and compares; a [`history`] is a start and steps. [`shrink`] makes one
 //! in which a difference was found small, by the skeleton for all such things in [`small`].
 //! - [`replay`] records what a history submits and how it is answered, changes the recording, and
-//! replays it on other tables.
+//! replays it on other tables. [`report`] adds such recordings to months' reports.
 //! - [`plan`] puts these together into a run of a given length from a given seed, of one [`mix`] or
 //! the other. [`tally`] and [`daily`] say what the run came to.
 
@@ -29,6 +29,7 @@ pub mod mix;
 pub mod plan;
 pub mod record;
 pub mod replay;
+pub mod report;
 pub mod shrink;
 pub mod small;
 pub mod start;

@@ -39,7 +39,8 @@ fn main() -> ExitCode {
             }
             let all = tally.missing().is_empty()
                 && tally.daily.missing().is_empty()
-                && tally.replays.missing().is_empty();
+                && tally.replays.missing().is_empty()
+                && tally.reports.missing().is_empty();
             let reached = all && goals.iter().all(Goal::is_reached);
             ExitCode::from(u8::from(!reached || !forbidden.is_empty()))
         }

@@ -11,7 +11,8 @@ use crate::dice::Dice;
 use crate::history::History;
 use crate::lookups;
 use crate::mix::Mix;
-use crate::replay::rounds;
+use crate::replay;
+use crate::report;
 use crate::shrink::shrink;
 use crate::start::{small_sizes, sound, Filled};
 use crate::step::Step;
@@ -65,7 +66,7 @@ pub fn run(plan: Plan, report: &mut dyn FnMut(&Tally)) -> Result<Tally, Failure>
     Ok(tally)
 }
 
-/// Everything once: histories, lent ledgers, broken ones, wrong lengths, codec, statuses, replays.
+/// Everything once: histories, lent ledgers, broken ones, wrong lengths, codec, statuses, replays, reports.
 fn one_round(plan: Plan, round: u64, tally: &mut Tally) -> Result<(), Failure> {
     let seed = plan.seed.wrapping_mul(0x1_0000_0001).wrapping_add(round);
     let dice = &mut Dice::new(seed);
@@ -98,7 +99,8 @@ fn one_round(plan: Plan, round: u64, tally: &mut Tally) -> Result<(), Failure> {
         codec::round(dice, tally).map_err(|d| Failure(format!("codec: {d}")))?;
     }
     codec::statuses(dice, tally).map_err(|d| Failure(d.to_string()))?;
-    rounds::round(&histories, round, dice.word(), tally).map_err(Failure)
+    replay::rounds::round(&histories, round, dice.word(), tally).map_err(Failure)?;
+    report::rounds::round(&histories, round, dice.word(), tally).map_err(Failure)
 }
 
 fn play(history: &History, tally: &mut Tally) -> Result<(), Failure> {

@@ -4,6 +4,7 @@ use std::fmt;
 
 use crate::daily::Daily;
 use crate::replay::counts::Replays;
+use crate::report::counts::Reports;
 
 /// The highest answer number.
 pub const LAST_ANSWER: usize = 40;
@@ -23,6 +24,8 @@ pub struct Tally {
     pub daily: Daily,
     /// What replays of recordings came to. The entries replayed are not among the submissions.
     pub replays: Replays,
+    /// What reports came to. Nor are the entries added to them.
+    pub reports: Reports,
 }
 
 impl Default for Tally {
@@ -34,6 +37,7 @@ impl Default for Tally {
             other_calls: 0,
             daily: Daily::default(),
             replays: Replays::default(),
+            reports: Reports::default(),
         }
     }
 }
@@ -115,6 +119,7 @@ impl Tally {
         self.other_calls += other.other_calls;
         self.daily.add(&other.daily);
         self.replays.add(&other.replays);
+        self.reports.add(&other.reports);
     }
 }
 
@@ -154,6 +159,7 @@ impl fmt::Display for Tally {
             writeln!(f, "not reached (operation, answer): {missing:?}")?;
         }
         writeln!(f, "{}", self.daily)?;
-        write!(f, "{}", self.replays)
+        writeln!(f, "{}", self.replays)?;
+        write!(f, "{}", self.reports)
     }
 }

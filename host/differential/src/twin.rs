@@ -3,11 +3,13 @@
 use std::fmt;
 use std::panic::{catch_unwind, AssertUnwindSafe};
 
-use milebeacon::ffi::Verdict;
+use milebeacon::ffi::{Told, Verdict};
 use milebeacon::{ffi, Sizes, Tables};
+use second::Added;
 
 use crate::daily;
 use crate::replay::verdict;
+use crate::report::twice::{told, Twice};
 use crate::tally::Tally;
 
 /// Five tables that a test owns.
@@ -168,6 +170,27 @@ impl Twin {
         let found = same("what a replay finds", core, verdict(second))?;
         self.compare()?;
         Ok(found)
+    }
+
+    /// Adds to a report with both, and compares what is told, the report and every word of the tables.
+    pub fn report(&mut self, recording: &[u8], report: &mut Twice) -> Result<Told, Difference> {
+        let had_stopped = report.has_stopped();
+        let lent_recording = recording.to_vec();
+        let core = report.add_core(self.core.as_mut(), &lent_recording);
+        if lent_recording != recording {
+            return Err(Difference("the core has changed the recording".to_owned()));
+        }
+        let added = guarded(|| report.add_second(&mut lent(&mut self.second), recording))?;
+        let stops = !had_stopped && report.has_stopped();
+        same("what is told", core, told(added))?;
+        same(
+            "whether it stops",
+            stops,
+            matches!(added, Added::Stopped { .. }),
+        )?;
+        report.compare()?;
+        self.compare()?;
+        Ok(core)
     }
 
     fn compare(&self) -> Result<(), Difference> {

@@ -69,16 +69,16 @@ fn a_hold_decides_at_the_end_of_its_24_hours() {
 #[test]
 fn it_decides_nothing_before_and_after_or_where_it_makes_no_difference() {
     let world = after_a_hold();
-    for now in [NOW, NOW + DAY - 1, NOW + DAY + 2] {
-        assert_eq!(told(&world, transfer(now, 401)), "");
-        assert_eq!(told(&world, open(now, 401)), "");
+    for clock in [NOW, NOW + DAY - 1, NOW + DAY + 2] {
+        assert_eq!(told(&world, transfer(clock, 401)), "");
+        assert_eq!(told(&world, open(clock, 401)), "");
     }
-    for now in [NOW + DAY, NOW + DAY + 1] {
+    for clock in [NOW + DAY, NOW + DAY + 1] {
         for amount in [400, 1_001] {
-            assert_eq!(told(&world, transfer(now, amount)), "");
-            assert_eq!(told(&world, open(now, amount)), "");
+            assert_eq!(told(&world, transfer(clock, amount)), "");
+            assert_eq!(told(&world, open(clock, amount)), "");
         }
-        let grant = Submission::grant(by(7, now, 99).by_admin(), 8, 401);
+        let grant = Submission::grant(by(7, clock, 99).by_admin(), 8, 401);
         assert_eq!(told(&world, grant), "");
     }
 }
@@ -86,9 +86,9 @@ fn it_decides_nothing_before_and_after_or_where_it_makes_no_difference() {
 #[test]
 fn a_transfer_is_no_hold() {
     let world = after(Submission::transfer(by(7, NOW, 1), 8, 600));
-    for now in [NOW, NOW + DAY, NOW + DAY + 1] {
-        assert_eq!(told(&world, transfer(now, 401)), "");
-        assert_eq!(told(&world, open(now, 401)), "");
+    for clock in [NOW, NOW + DAY, NOW + DAY + 1] {
+        assert_eq!(told(&world, transfer(clock, 401)), "");
+        assert_eq!(told(&world, open(clock, 401)), "");
     }
 }
 

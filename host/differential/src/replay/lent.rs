@@ -98,3 +98,10 @@ fn words(sizes: Sizes, dice: &mut Dice) -> World {
     }
     world
 }
+
+/// Each table of each length, one after another.
+pub fn another_length(turn: u64) -> (usize, Length) {
+    let lengths = LENGTHS.len() as u64;
+    let (table, length) = (turn % 5, turn / 5 % lengths);
+    (table as usize, LENGTHS[length as usize])
+}

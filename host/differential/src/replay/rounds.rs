@@ -2,7 +2,7 @@
 
 use milebeacon::Sizes;
 
-use super::lent::{Length, On, LENGTHS};
+use super::lent::{another_length, On};
 use super::recording::{By, Change};
 use super::shrink::shrink;
 use super::Replay;
@@ -103,11 +103,4 @@ fn planned(round: u64, dice: &mut Dice) -> Vec<(Change, On)> {
         (change, On::Length(table, length))
     }));
     planned
-}
-
-/// Each table of each length, one after another.
-fn another_length(turn: u64) -> (usize, Length) {
-    let lengths = LENGTHS.len() as u64;
-    let (table, length) = (turn % 5, turn / 5 % lengths);
-    (table as usize, LENGTHS[length as usize])
 }

@@ -6,7 +6,7 @@ use super::lent::On;
 use super::recording::{By, Change};
 use super::Replay;
 use crate::history::Found;
-use crate::shrink::told;
+use crate::shrink::told as told_history;
 use crate::small::{shrink_by, Shrink, Small, Test};
 use crate::tally::Tally;
 use crate::twin::Difference;
@@ -91,38 +91,42 @@ fn plainer(small: &mut Small<Replay>, test: Test<'_, Replay>) {
     }
 }
 
+/// A replay in words: the steps, and what was recorded of them.
+pub(crate) fn told(replay: &Replay) -> String {
+    let Replay {
+        history,
+        by,
+        change,
+        place,
+        on,
+        seed,
+    } = replay;
+    let mut story = format!(
+        "recorded by {by:?}, change {change:?} in entry {}, on {on:?}, seed {seed}\n",
+        place + 1
+    );
+    story += &told_history(history);
+    let recording = replay
+        .entries()
+        .and_then(|entries| replay.recording(&entries));
+    let bytes = recording.map_or_else(|_| Vec::new(), |recording| recording.bytes);
+    let pieces = bytes.chunks(ENTRY_BYTES);
+    let untold = pieces.len().saturating_sub(TOLD);
+    for (entry, piece) in (1..).zip(pieces).take(TOLD) {
+        story += &match piece.get(108..ENTRY_BYTES) {
+            Some(answer) => format!("entry {entry}: answer and word {answer:02X?}\n"),
+            None => format!("entry {entry}: cut to {} bytes\n", piece.len()),
+        };
+    }
+    if untold > 0 {
+        story += &format!("and {untold} more\n");
+    }
+    story
+}
+
 impl Small<Replay> {
-    /// The replay in words: the steps, what was recorded of them, and the difference.
+    /// The replay in words, and the difference.
     pub fn story(&self) -> String {
-        let Replay {
-            history,
-            by,
-            change,
-            place,
-            on,
-            seed,
-        } = &self.inner;
-        let mut story = format!(
-            "a replay: recorded by {by:?}, change {change:?} in entry {}, on {on:?}, seed {seed}\n",
-            place + 1
-        );
-        story += &told(history);
-        let recording = self
-            .inner
-            .entries()
-            .and_then(|entries| self.inner.recording(&entries));
-        let bytes = recording.map_or_else(|_| Vec::new(), |recording| recording.bytes);
-        let pieces = bytes.chunks(ENTRY_BYTES);
-        let untold = pieces.len().saturating_sub(TOLD);
-        for (entry, piece) in (1..).zip(pieces).take(TOLD) {
-            story += &match piece.get(108..ENTRY_BYTES) {
-                Some(answer) => format!("entry {entry}: answer and word {answer:02X?}\n"),
-                None => format!("entry {entry}: cut to {} bytes\n", piece.len()),
-            };
-        }
-        if untold > 0 {
-            story += &format!("and {untold} more\n");
-        }
-        story + &format!("{}\n", self.found)
+        format!("a replay: {}{}\n", told(&self.inner), self.found)
     }
 }
