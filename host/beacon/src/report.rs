@@ -20,8 +20,9 @@ pub fn command() -> Command {
         .about("Counts recordings by operation and answer, and adds up their credits")
         .long_about(
             "Replays each recording on a fresh ledger and counts its entries by operation and by \
-             the core's own answer. Prints the counts that are not 0, and the credits granted, \
-             transferred, released, refunded and expired. Recorded answers are not looked at: \
+             the core's own answer. Prints the grid of counts, a row for each answer and a column \
+             for each operation, and the credits granted, transferred, released, refunded and \
+             expired. Recorded answers are not looked at: \
              `beacon replay` compares them. The sizes of the tables must be those that the \
              recordings were made with. An entry cut short at the end of a recording is not \
              counted, which is told on standard error.\n\n\
@@ -40,11 +41,11 @@ pub fn command() -> Command {
                 .help("Recordings, entries of 117 bytes; - is standard input"),
         )
         .arg(flag(
-            "grid",
-            "Print the whole grid: answers down, operations across",
+            "brief",
+            "Leave out what is empty: print only the counts that are not 0, a line each",
         ))
         .arg(
-            flag("csv", "Print comma-separated values, for a spreadsheet").conflicts_with("grid"),
+            flag("csv", "Print comma-separated values, for a spreadsheet").conflicts_with("brief"),
         );
     sizes::options(command)
 }
@@ -74,10 +75,10 @@ pub fn report(matches: &ArgMatches, output: &mut Vec<u8>) -> Result<ExitCode, Pr
             recordings: counted.recordings,
             lacks: counted.stop.as_ref().map(|stop| stop.lacks(paths.len())),
         };
-        if matches.get_flag("grid") {
-            counts::grid(report, &told)
-        } else {
+        if matches.get_flag("brief") {
             counts::lines(report, &told)
+        } else {
+            counts::grid(report, &told)
         }
     };
     output.extend_from_slice(text.as_bytes());

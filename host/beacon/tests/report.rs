@@ -34,9 +34,9 @@ credits
 ";
 
 #[test]
-fn counts_that_are_not_0_and_credits_are_printed() {
+fn what_is_empty_is_left_out_on_request() {
     let path = busy("busy.rec");
-    assert_eq!(text(&succeeds(&["report", &path])), BUSY);
+    assert_eq!(text(&succeeds(&["report", "--brief", &path])), BUSY);
 
     let none = written("none.rec", b"");
     let expected = "\
@@ -52,13 +52,14 @@ credits
   refunded                 0
   expired                  0
 ";
-    assert_eq!(text(&succeeds(&["report", &none])), expected);
+    assert_eq!(text(&succeeds(&["report", "--brief", &none])), expected);
 }
 
 #[test]
 fn many_recordings_are_one_report_each_on_a_fresh_ledger() {
     let path = busy("again-and-again.rec");
-    let words: Vec<&str> = ["report"].into_iter().chain([path.as_str(); 100]).collect();
+    let words = ["report", "--brief"].into_iter();
+    let words: Vec<&str> = words.chain([path.as_str(); 100]).collect();
     let shown = succeeds(&words);
     let shown = text(&shown);
     assert!(shown.starts_with("1,100 entries in 100 recordings\n"));
@@ -89,7 +90,7 @@ fn records_of_no_operation_have_a_row() {
     bytes[2] = 12;
     bytes[ENTRY_BYTES + 2] = 255;
     bytes[2 * ENTRY_BYTES + 2] = 11;
-    let shown = succeeds(&["report", &written("noise.rec", &bytes)]);
+    let shown = succeeds(&["report", "--brief", &written("noise.rec", &bytes)]);
     let expected = "
   operation     answer               entries
   no operation   3 malformed_record        2
@@ -101,7 +102,7 @@ fn records_of_no_operation_have_a_row() {
 #[test]
 fn the_grid_has_every_operation_and_answer() {
     let path = busy("grid.rec");
-    let shown = succeeds(&["report", "--grid", &path]);
+    let shown = succeeds(&["report", &path]);
     let lines: Vec<&str> = text(&shown).lines().collect();
     let words = |line: &str| line.split_whitespace().map(str::to_owned).collect();
     let operations = "no operation grant transfer open release refund claim accept dispute sweep \
@@ -152,7 +153,7 @@ fn entries_cut_short_are_told_and_not_counted() {
 fn sizes_are_those_of_the_options() {
     let path = busy("sized.rec");
     let sizes = "--wallets 1 --escrows 4,096 --receipts 4096 --journal 8_192";
-    let words: Vec<&str> = ["report", &path]
+    let words: Vec<&str> = ["report", "--brief", &path]
         .into_iter()
         .chain(sizes.split(' '))
         .collect();
@@ -179,7 +180,7 @@ fn bad_commands_get_one_line() {
     let cases = [
         ("report", 2, "FILE"),
         ("report - -", 2, "can be read only once"),
-        ("report - --grid --csv", 2, "'--grid'"),
+        ("report - --brief --csv", 2, "'--brief'"),
         ("report - --wallets 0", 2, "1 to 1024"),
         ("report - --record x", 2, "--record"),
     ];
