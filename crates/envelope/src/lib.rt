@@ -22,21 +22,20 @@ use rules::limits::SIGNER;
 use rules::limits::SWEEP;
 use rules::limits::SYSTEM_FROZEN;
 
-// Whether one of the first n journal rows has signer and nonce.
+// Whether one of the first n journal rows has signer and nonce. The newest is looked at first, as nearly every retry comes within a minute.
 pub fn seen(journal: &[u64], n: usize, signer: u64, nonce: u64) -> bool
     requires { ⌜ n * JOURNAL-LEN ≤ length (now journal) ⌝ }
     ensures { λ r. ⌜ r ≡ seenIn (now (journal .entry)) n signer nonce ⌝ }
 {
-    let mut i = 0;
-    while i < n {
-        if (journal[i * JOURNAL_LEN + SIGNER] == signer)
-            & (journal[i * JOURNAL_LEN + NONCE] == nonce)
-        {
-            return true;
-        }
-        i += 1;
+    // no return from the loop: with one, the compiler puts a branch between the two comparisons, and it is guessed wrong where a signer has many rows
+    let mut found = false;
+    let mut i = n;
+    while (0 < i) & !found {
+        i -= 1;
+        found = (journal[i * JOURNAL_LEN + SIGNER] == signer)
+            & (journal[i * JOURNAL_LEN + NONCE] == nonce);
     }
-    false
+    found
 }
 
 // The first of checks 4 to 11 that holds, or 0. Each condition is worked out, whether or not an earlier one holds.
