@@ -126,3 +126,17 @@ NONE-YET = replicate FIGURES 0
 
 abbrev pub NOTHING-NAMED : List ℕ
 NOTHING-NAMED = 0 ∷ 0 ∷ 0 ∷ []
+
+-- ---- Request 4: the newest first
+
+-- 7 pays 1 to 8 at 1,000, with this nonce; and the answer
+abbrev pub pays-1 : ℕ → ℕ → Step
+pays-1 nonce number = step (sub TRANSFER 0b0001 1_000 7 nonce 1_000 2_000 8 1 0 0) number 0
+
+-- a step's retry
+abbrev pub again : Step → Step
+again x = step (x .submission) 11 0
+
+-- a grant of 1 to 7 at 1,000 by an admin, with this nonce; and the answer
+abbrev pub grants-1 : ℕ → ℕ → ℕ → Step
+grants-1 admin nonce number = step (sub GRANT 0b0011 1_000 admin nonce 1_000 2_000 7 1 0 0) number 0

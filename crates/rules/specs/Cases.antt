@@ -10,7 +10,7 @@ use Rattle.rules.specs.Replay.{answer, verdict}
 use Rattle.rules.specs.Report.{reportOf, blank-report}
 use Rattle.rules.specs.Trials.{replays, reports, Case, ODD-WORD, tables, sub, case, step, leaves, has, entry, entry-as, recorded, added, added-leaving, counted, reported-from}
 use Rattle.rules.specs.CaseSteps.{P1, opening, P2, P3, releases, P4, transfers, enveloped, opens, claims, accepts, sweeps, all-agree, capped, grants-8, holds-by, DAY-ENDS-MS, DAY-OVER-MS, transfers-1, opens-1}
-use Rattle.rules.specs.CaseSteps.{sent, unmarked, bare, refunds-2000, releases-2000, sweeps-at, claims-auto, brought, NONE-YET, NOTHING-NAMED}
+use Rattle.rules.specs.CaseSteps.{sent, unmarked, bare, refunds-2000, releases-2000, sweeps-at, claims-auto, brought, NONE-YET, NOTHING-NAMED, pays-1, again, grants-1}
 
 -- THE TABLE
 abbrev pub cases : List Case
@@ -169,4 +169,12 @@ cases =
         named = NOTHING-NAMED;
       });
     }
+    -- a full journal: each of its rows is seen, from the newest to the oldest; a nonce that is in none of them is not, nor is the newest row's nonce of
+    -- another signer
+    ∷ case 401
+    (P1 ∷ P2 ∷ pays-1 2 0 ∷ pays-1 3 0 ∷ pays-1 4 0 ∷ pays-1 5 0 ∷ pays-1 6 0 ∷ pays-1 7 0
+    ∷ pays-1 7 11 ∷ pays-1 6 11 ∷ pays-1 5 11 ∷ pays-1 4 11 ∷ pays-1 3 11 ∷ pays-1 2 11 ∷ again P2 ∷ again P1
+    ∷ pays-1 8 40 ∷ grants-1 1 7 40 ∷ [])
+    -- rows that are not written have this signer and nonce in every word, and are not looked at
+    ∷ case 402 (grants-1 ODD-WORD ODD-WORD 0 ∷ grants-1 ODD-WORD ODD-WORD 11 ∷ [])
     ∷ []
