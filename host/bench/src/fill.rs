@@ -59,7 +59,7 @@ pub fn id(ids: Ids, place: usize) -> u64 {
 }
 
 /// Bits that look like chance (the last steps of splitmix64; no two numbers give the same).
-fn mixed(number: u64) -> u64 {
+pub fn mixed(number: u64) -> u64 {
     let mut bits = number.wrapping_mul(0x9E37_79B9_7F4A_7C15);
     bits = (bits ^ (bits >> 30)).wrapping_mul(0xBF58_476D_1CE4_E5B9);
     bits = (bits ^ (bits >> 27)).wrapping_mul(0x94D0_49BB_1331_11EB);

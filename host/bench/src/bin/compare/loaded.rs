@@ -1,13 +1,14 @@
 //! The core as a shared object that is loaded at run time, so that two of them can be called in one
 //! run, and the only `unsafe` code of this program.
 //!
-//! The entry point has the shape that `milebeacon::ffi` declares for the archive.
+//! The entry point has the shape that `milebeacon::ffi` declares for the archive, and the search the
+//! one that the core's module gives it.
 
 #![allow(unsafe_code)]
 
 use libloading::Library;
 use milebeacon::ffi::Answer;
-use milebeacon::Tables;
+use milebeacon::{JournalRow, Tables};
 
 /// `milebeacon_submit`: the five tables and the record, each as its pointer and its number of
 /// elements.
@@ -26,9 +27,21 @@ type Submit = unsafe extern "C" fn(
     record_len: usize,
 ) -> Answer;
 
+/// `envelope_seen`, which `tools/native-archive` adds: the slice of all written journal rows, how
+/// many there are, and what is looked for.
+type Seen = unsafe extern "C" fn(journal: &Lent, rows: usize, signer: u64, nonce: u64) -> bool;
+
+/// A slice as the core's own functions hand it on.
+#[repr(C)]
+struct Lent {
+    words: *const u64,
+    count: usize,
+}
+
 /// An archive of the core, linked as a shared object and loaded.
 pub struct Core {
     submit: Submit,
+    seen: Option<Seen>,
     /// The code stays loaded for as long as the entry point can be called.
     _library: Library,
 }
@@ -37,18 +50,44 @@ impl Core {
     /// Loads the shared object in this file.
     pub fn load(path: &str) -> Result<Core, String> {
         // SAFETY: the object is an archive of the core, linked by `tools/host-compare`: loading it
-        // runs nothing but the C start-up code, and its entry point has the shape of `Submit`.
+        // runs nothing but the C start-up code, its entry point has the shape of `Submit`, and its
+        // search that of `Seen`, where there is one.
         let loaded = unsafe {
             Library::new(path).and_then(|library| {
                 let submit = *library.get::<Submit>(b"milebeacon_submit\0")?;
-                Ok((submit, library))
+                let seen = library.get::<Seen>(b"envelope_seen\0").ok().map(|it| *it);
+                Ok((submit, seen, library))
             })
         };
-        let (submit, library) = loaded.map_err(|error| format!("cannot load {path}: {error}"))?;
+        let (submit, seen, library) =
+            loaded.map_err(|error| format!("cannot load {path}: {error}"))?;
         Ok(Core {
             submit,
+            seen,
             _library: library,
         })
+    }
+
+    /// Whether the search can be called by itself.
+    pub fn searches(&self) -> bool {
+        self.seen.is_some()
+    }
+
+    /// Whether one of the rows of a journal without a free row has signer and nonce.
+    ///
+    /// # Panics
+    ///
+    /// If the search cannot be called by itself.
+    pub fn seen(&self, journal: &[u64], signer: u64, nonce: u64) -> bool {
+        let seen = self.seen.expect("the search can be called by itself");
+        let lent = Lent {
+            words: journal.as_ptr(),
+            count: journal.len(),
+        };
+        // SAFETY: pointer and count are those of a live slice, of which the search reads as many
+        // whole rows as it is told, and writes nothing. The library is loaded as long as `self`
+        // lives.
+        unsafe { seen(&lent, journal.len() / JournalRow::WORDS, signer, nonce) }
     }
 
     /// Settles the record on the lent tables, or refuses it and changes nothing.

@@ -11,7 +11,7 @@ use crate::loaded::Core;
 /// The archive before the change, the one after it, and the one before it once more.
 pub type Placement = [Core; 3];
 
-/// The places in a [`Placement`], and in the times of [`taken`].
+/// The places in a [`Placement`], and in [`Times`].
 pub const BEFORE: usize = 0;
 pub const AFTER: usize = 1;
 pub const AGAIN: usize = 2;
@@ -26,23 +26,36 @@ const ORDERS: [[usize; 3]; 6] = [
     [AFTER, BEFORE, AGAIN],
 ];
 
-/// The microseconds of one call in each turn, for each of the three. Turns take the placements one
-/// after the other, so turn `t` is one of placement `t % placements.len()`.
-///
-/// # Errors
-///
-/// In what two of them differ, or an answer that is not the call's.
-pub fn taken(call: &Call, placements: &[Placement], turns: usize) -> Result<[Vec<f64>; 3], String> {
-    let mut shared = Shared::agreed(call, placements)?;
+/// The microseconds of each turn, for each of the three.
+pub type Times = [Vec<f64>; 3];
+
+/// What `time` measures in each turn. Turns take the placements one after the other, so turn `t` is
+/// one of placement `t % placements.len()`.
+pub fn in_turns(
+    placements: &[Placement],
+    turns: usize,
+    mut time: impl FnMut(&Core) -> f64,
+) -> Times {
     let mut times = [(); 3].map(|()| Vec::with_capacity(turns));
     for turn in 0..turns {
         let placement = &placements[turn % placements.len()];
         for which in ORDERS[turn / placements.len() % ORDERS.len()] {
-            // the first call brings the code back into the caches, the second one counts
-            shared.time(&placement[which]);
-            times[which].push(shared.time(&placement[which]));
+            // the first time brings the code back into the caches, the second one counts
+            time(&placement[which]);
+            times[which].push(time(&placement[which]));
         }
     }
+    times
+}
+
+/// The microseconds of one call in each turn.
+///
+/// # Errors
+///
+/// In what two of them differ, or an answer that is not the call's.
+pub fn taken(call: &Call, placements: &[Placement], turns: usize) -> Result<Times, String> {
+    let mut shared = Shared::agreed(call, placements)?;
+    let times = in_turns(placements, turns, |core| shared.time(core));
     assert!(
         shared.tables == call.start,
         "every changed word was put back"
