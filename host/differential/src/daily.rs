@@ -5,11 +5,9 @@
 //! short, or no longer after a refund, answers such payments otherwise and no other submission; so
 //! a run must come to them. They are worked out here from the tables, by neither program.
 
-use std::collections::BTreeMap;
-use std::fmt;
-
 use milebeacon::{EscrowState, JournalRow, Ledger};
 
+use crate::reached::Reached;
 use crate::record::word;
 use crate::step::DAY_MS;
 use crate::twin::World;
@@ -31,51 +29,9 @@ const ENDS: [EscrowState; 3] = [
     EscrowState::Expired,
 ];
 
-/// How often a payment was decided so.
-#[derive(Clone, Debug, Default)]
-pub struct Daily {
-    reached: BTreeMap<String, u64>,
-}
-
-impl Daily {
-    /// Counts what one submission came to.
-    pub fn count(&mut self, reached: Vec<String>) {
-        for what in reached {
-            *self.reached.entry(what).or_insert(0) += 1;
-        }
-    }
-
-    /// What was not reached.
-    pub fn missing(&self) -> Vec<&'static str> {
-        let wanted = WANTED.into_iter();
-        wanted.filter(|&what| self.times(what) == 0).collect()
-    }
-
-    /// Adds other counts to these.
-    pub fn add(&mut self, other: &Daily) {
-        for (what, times) in &other.reached {
-            *self.reached.entry(what.clone()).or_insert(0) += times;
-        }
-    }
-
-    fn times(&self, what: &str) -> u64 {
-        self.reached.get(what).copied().unwrap_or(0)
-    }
-}
-
-impl fmt::Display for Daily {
-    fn fmt(&self, f: &mut fmt::Formatter<'_>) -> fmt::Result {
-        write!(f, "payments that a hold decided at the daily cap")?;
-        for what in WANTED {
-            write!(f, "\n{:>9} {what}", self.times(what))?;
-        }
-        let missing = self.missing();
-        if missing.is_empty() {
-            Ok(())
-        } else {
-            write!(f, "\nnot reached: {missing:?}")
-        }
-    }
+/// Counts of the payments that were decided so.
+pub fn none() -> Reached {
+    Reached::none("payments that a hold decided at the daily cap", &WANTED)
 }
 
 /// What a submission with this answer came to, given the tables before it: nothing unless it is a

@@ -27,6 +27,7 @@ mod knobs;
 pub mod lookups;
 pub mod mix;
 pub mod plan;
+pub mod reached;
 pub mod record;
 pub mod replay;
 pub mod report;

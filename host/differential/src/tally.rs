@@ -2,7 +2,8 @@
 
 use std::fmt;
 
-use crate::daily::Daily;
+use crate::daily;
+use crate::reached::Reached;
 use crate::replay::counts::Replays;
 use crate::report::counts::Reports;
 
@@ -21,7 +22,7 @@ pub struct Tally {
     /// Other calls that were compared: starts, reads, writes, lookups, statuses.
     pub other_calls: u64,
     /// Payments that a hold decided at the daily cap.
-    pub daily: Daily,
+    pub daily: Reached,
     /// What replays of recordings came to. The entries replayed are not among the submissions.
     pub replays: Replays,
     /// What reports came to. Nor are the entries added to them.
@@ -35,7 +36,7 @@ impl Default for Tally {
             submissions: 0,
             on_largest: 0,
             other_calls: 0,
-            daily: Daily::default(),
+            daily: daily::none(),
             replays: Replays::default(),
             reports: Reports::default(),
         }

@@ -1,0 +1,65 @@
+//! Counts of the ways in which submissions of a kind were decided, and which of them a run must
+//! come to.
+
+use std::collections::BTreeMap;
+use std::fmt;
+
+/// How often each way was come to.
+#[derive(Clone, Debug)]
+pub struct Reached {
+    kind: &'static str,
+    wanted: &'static [&'static str],
+    times: BTreeMap<String, u64>,
+}
+
+impl Reached {
+    /// None so far, of submissions of this kind. Each of the wanted ways must be come to at least
+    /// once.
+    pub fn none(kind: &'static str, wanted: &'static [&'static str]) -> Reached {
+        Reached {
+            kind,
+            wanted,
+            times: BTreeMap::new(),
+        }
+    }
+
+    /// Counts what one submission came to.
+    pub fn count(&mut self, ways: Vec<String>) {
+        for way in ways {
+            *self.times.entry(way).or_insert(0) += 1;
+        }
+    }
+
+    /// What was not reached.
+    pub fn missing(&self) -> Vec<&'static str> {
+        let wanted = self.wanted.iter().copied();
+        wanted.filter(|way| self.times(way) == 0).collect()
+    }
+
+    /// Adds other counts to these.
+    pub fn add(&mut self, other: &Reached) {
+        for (way, times) in &other.times {
+            *self.times.entry(way.clone()).or_insert(0) += times;
+        }
+    }
+
+    /// How often this way was come to.
+    pub fn times(&self, way: &str) -> u64 {
+        self.times.get(way).copied().unwrap_or(0)
+    }
+}
+
+impl fmt::Display for Reached {
+    fn fmt(&self, f: &mut fmt::Formatter<'_>) -> fmt::Result {
+        f.write_str(self.kind)?;
+        for way in self.wanted {
+            write!(f, "\n{:>9} {way}", self.times(way))?;
+        }
+        let missing = self.missing();
+        if missing.is_empty() {
+            Ok(())
+        } else {
+            write!(f, "\nnot reached: {missing:?}")
+        }
+    }
+}
