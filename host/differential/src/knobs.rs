@@ -84,9 +84,17 @@ impl Step {
 
     pub(crate) fn nonce(&self, view: &View<'_>, signer: u64) -> (u64, u64) {
         let fresh = view.journal_count().wrapping_add(1_000_000);
-        match (self.nonce, view.entry(self.pick())) {
-            (1 | 2, Some(entry)) => (entry.signer, entry.nonce),
-            (3, Some(entry)) => (signer, entry.nonce),
+        let newest = view.journal_count().wrapping_sub(1);
+        let entry = match self.nonce {
+            6 | 8 => view.entry(newest),
+            7 | 9 => view.entry(0),
+            10 => view.unwritten(true),
+            11 => view.unwritten(false),
+            _ => view.entry(self.pick()),
+        };
+        match (self.nonce, entry) {
+            (1 | 2 | 6 | 7 | 10 | 11, Some(entry)) => (entry.signer, entry.nonce),
+            (3 | 8 | 9, Some(entry)) => (signer, entry.nonce),
             (4, _) => (signer, 0),
             (5, _) => (signer, u64::MAX),
             _ => (signer, fresh),

@@ -6,7 +6,7 @@ use milebeacon::Sizes;
 
 use crate::dice::Dice;
 use crate::history::{Begin, History};
-use crate::start::roomy_sizes;
+use crate::start::{roomy_sizes, small_sizes};
 use crate::tally::Tally;
 
 /// A mix of histories. Damaged ledgers, wrong lengths, codec and statuses are the same in each.
@@ -67,10 +67,14 @@ impl Mix {
 
     /// The histories of one round.
     pub(crate) fn histories(self, round: u64, dice: &mut Dice) -> Vec<History> {
-        match self {
+        let mut histories = match self {
             Mix::Limits => limits(round, dice),
             Mix::Settling => settling(round, dice),
+        };
+        if round % 4 == 3 {
+            histories.push(one_entry(dice));
         }
+        histories
     }
 
     /// What a run of this mix must come to, besides every answer.
@@ -90,6 +94,16 @@ impl Mix {
             ],
         }
     }
+}
+
+/// A history on a journal of one row: the newest, the oldest and the last of the table.
+fn one_entry(dice: &mut Dice) -> History {
+    let sizes = Sizes {
+        journal: 1,
+        ..small_sizes(dice)
+    };
+    let begin = dice.pick(&[Begin::Fresh, Begin::Lent]);
+    History::of(begin, sizes, dice, 40)
 }
 
 fn limits(round: u64, dice: &mut Dice) -> Vec<History> {

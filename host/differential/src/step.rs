@@ -31,7 +31,7 @@ pub struct Step {
     pub tick: u8,
     /// Who signs.
     pub signer: u8,
-    /// A new nonce or an old one.
+    /// A new nonce, an old one, or what an unwritten row happens to hold.
     pub nonce: u8,
     /// When the record is issued and expires.
     pub window: u8,

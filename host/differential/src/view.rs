@@ -155,6 +155,7 @@ impl<'a> View<'a> {
         around(&rows, pick)
     }
 
+    /// One of the written rows; counted from 0, around.
     pub fn entry(&self, pick: u64) -> Option<EntrySeen> {
         let rows: Vec<EntrySeen> = self
             .ledger
@@ -166,6 +167,20 @@ impl<'a> View<'a> {
             })
             .collect();
         around(&rows, pick)
+    }
+
+    /// What the first unwritten journal row happens to hold, or the last; none if its signer is 0
+    /// and so nobody.
+    pub fn unwritten(&self, first: bool) -> Option<EntrySeen> {
+        let written = usize::try_from(self.journal_count()).ok()?;
+        let mut rows = self.ledger.tables().journal.chunks_exact(8).skip(written);
+        let row = if first { rows.next() } else { rows.last() };
+        let entry = row.map(|row| EntrySeen {
+            signer: row[0],
+            nonce: row[1],
+            settled_at: seen(row[5]),
+        });
+        entry.filter(|entry| entry.signer != 0)
     }
 
     /// The rows that a sweep could close.
