@@ -12,7 +12,7 @@
 //! - [`replay`] records what a history submits and how it is answered, changes the recording, and
 //! replays it on other tables. [`report`] adds such recordings to months' reports.
 //! - [`plan`] puts these together into a run of a given length from a given seed, of one [`mix`] or
-//! the other. [`tally`] and [`daily`] say what the run came to.
+//! the other. [`tally`], [`daily`] and [`retries`] say what the run came to.
 
 #![forbid(unsafe_code)]
 #![warn(missing_docs)]
@@ -31,6 +31,7 @@ pub mod reached;
 pub mod record;
 pub mod replay;
 pub mod report;
+pub mod retries;
 pub mod shrink;
 pub mod small;
 pub mod start;

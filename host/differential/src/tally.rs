@@ -6,6 +6,7 @@ use crate::daily;
 use crate::reached::Reached;
 use crate::replay::counts::Replays;
 use crate::report::counts::Reports;
+use crate::retries;
 
 /// The highest answer number.
 pub const LAST_ANSWER: usize = 40;
@@ -23,6 +24,8 @@ pub struct Tally {
     pub other_calls: u64,
     /// Payments that a hold decided at the daily cap.
     pub daily: Reached,
+    /// Submissions whose signer and nonce one journal row decided.
+    pub retries: Reached,
     /// What replays of recordings came to. The entries replayed are not among the submissions.
     pub replays: Replays,
     /// What reports came to. Nor are the entries added to them.
@@ -37,6 +40,7 @@ impl Default for Tally {
             on_largest: 0,
             other_calls: 0,
             daily: daily::none(),
+            retries: retries::none(),
             replays: Replays::default(),
             reports: Reports::default(),
         }
@@ -119,6 +123,7 @@ impl Tally {
         self.on_largest += other.on_largest;
         self.other_calls += other.other_calls;
         self.daily.add(&other.daily);
+        self.retries.add(&other.retries);
         self.replays.add(&other.replays);
         self.reports.add(&other.reports);
     }
@@ -160,6 +165,7 @@ impl fmt::Display for Tally {
             writeln!(f, "not reached (operation, answer): {missing:?}")?;
         }
         writeln!(f, "{}", self.daily)?;
+        writeln!(f, "{}", self.retries)?;
         writeln!(f, "{}", self.replays)?;
         write!(f, "{}", self.reports)
     }

@@ -10,6 +10,7 @@ use second::Added;
 use crate::daily;
 use crate::replay::verdict;
 use crate::report::twice::{told, Twice};
+use crate::retries;
 use crate::tally::Tally;
 
 /// Five tables that a test owns.
@@ -139,12 +140,14 @@ impl Twin {
             return Err(Difference("the core has changed the record".to_owned()));
         }
         // the second program's tables are still as they were before the call
-        let decided = daily::decided(&self.second, record, answer.number);
+        let paid = daily::decided(&self.second, record, answer.number);
+        let tried = retries::decided(&self.second, record, answer.number);
         let second = guarded(|| second::submit(&mut lent(&mut self.second), record))?;
         let answer = same("answer and word", (answer.number, answer.word), second)?;
         self.compare()?;
         tally.count(record, answer.0);
-        tally.daily.count(decided);
+        tally.daily.count(paid);
+        tally.retries.count(tried);
         tally.on_largest += u64::from(is_largest(&self.core));
         Ok(answer)
     }
