@@ -1,4 +1,4 @@
-// Checks 15 to 40 of the operations on escrows and receipts: release and refund, claim, accept and dispute.
+// Checks 15 to 41 of the operations on escrows and receipts: release and refund, claim, accept and dispute.
 ghost use mathlib.Core.Path.{_≡_};
 ghost use mathlib.Core.Logic.{_⊎_};
 ghost use Prim.Native.Nat.{_*_, _≤_, _<_};
@@ -13,6 +13,7 @@ use rules::Edition;
 use rules::EscrowNumber;
 use rules::ReceiptNumber;
 use rules::Submission;
+use rules::limits::ACCEPTANCE_DEADLINE;
 use rules::limits::ADMIN;
 use rules::limits::DISPUTE;
 use rules::limits::ENTRIES;
@@ -134,7 +135,7 @@ pub fn claim_refusal(
     rows::choose(recipient_invalid, 15, r22)
 }
 
-// An accept or a dispute: checks 32 to 35, 40.
+// An accept or a dispute: checks 32, 33, 34, 41, 35, 40, in this order.
 pub fn reply_refusal(header: &[u64], receipts: &[u64], journal: &[u64], s: Submission) -> u64
     requires { ⌜ (ENTRIES < length (now header)) × (getD (now header) RECEIPTS 0 ≤ MAX-RECEIPTS) × ((s .op ≡ ACCEPT) ⊎ (s .op ≡ DISPUTE)) ⌝ }
     ensures { λ x. ⌜ ((K : Ledger) → let L = any K with-header header with-receipts receipts with-journal journal in x ≡ first (operationRefusals (L .entry) s)) ⌝ }
@@ -143,15 +144,18 @@ pub fn reply_refusal(header: &[u64], receipts: &[u64], journal: &[u64], s: Submi
     let entries = header[ENTRIES] as usize;
     let receipt = receipt_named(count, ReceiptNumber(s.target));
     let requester = rows::numbered::receipt(receipts, receipt, REQUESTER);
+    let deadline = rows::numbered::receipt(receipts, receipt, ACCEPTANCE_DEADLINE);
     let state = rows::numbered::receipt(receipts, receipt, RECEIPT_STATE);
     let there = (0 < s.target) & (s.target <= count);
     let signer_not_authorized = there & (s.signer != requester);
     let not_pending = there & (state != PENDING);
+    let acceptance_closed = there & (deadline < s.now);
     let reason_required = (s.op == DISPUTE) & (s.flags / REASON_GIVEN % 2 == 0);
     let journal_table_full = journal.len() / JOURNAL_LEN <= entries;
     let r40 = rows::choose(journal_table_full, 40, 0);
     let r35 = rows::choose(reason_required, 35, r40);
-    let r34 = rows::choose(not_pending, 34, r35);
+    let r41 = rows::choose(acceptance_closed, 41, r35);
+    let r34 = rows::choose(not_pending, 34, r41);
     let r33 = rows::choose(signer_not_authorized, 33, r34);
     rows::choose(!there, 32, r33)
 }

@@ -1,4 +1,4 @@
-// Checks 4 to 40 on a ledger that is sound and a record that is well formed: the number of the first that holds, or 0. A family of
+// Checks 4 to 41 on a ledger that is sound and a record that is well formed: the number of the first that holds, or 0. A family of
 // operations is one strict group: each of its conditions is worked out, and then the first that holds is picked, from the last to the first.
 ghost use mathlib.Core.Path.{_≡_};
 ghost use Rattle.rules.specs.Moments.{tables, lent};
@@ -20,7 +20,7 @@ use rules::limits::TRANSFER;
 
 mod admin;
 
-// Checks 12 to 40, by the operation.
+// Checks 12 to 41, by the operation.
 fn operation_refusal(
     edition: Edition,
     header: &[u64],
@@ -47,7 +47,7 @@ fn operation_refusal(
     }
 }
 
-// Checks 4 to 40: those of the envelope, and if none of them holds, those of the operation.
+// Checks 4 to 41: those of the envelope, and if none of them holds, those of the operation.
 pub fn refusal(
     edition: Edition,
     header: &[u64],

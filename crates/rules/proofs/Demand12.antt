@@ -10,7 +10,7 @@ use lib.ListN.{getD, length, take, drop, length-take, length-drop}
 use lib.Seq.{drop-length, take-nil}
 use lib.Dec.{eqb, ltb, lit≤}
 use borrow.Author.Tests.{ltb-true}
-use Rattle.rules.specs.Limits.{RECORD-BYTES, WALLETS, ESCROWS, RECEIPTS, WALLET-LEN, RECEIPT-LEN, MAX-WALLETS, MAX-ESCROWS, MAX-RECEIPTS}
+use Rattle.rules.specs.Limits.{RECORD-BYTES, WALLETS, ESCROWS, RECEIPTS, WALLET-LEN, RECEIPT-LEN, MAX-WALLETS, MAX-ESCROWS, MAX-RECEIPTS, LAST-ANSWER}
 use Rattle.rules.specs.Table.{rowsIn}
 use Rattle.rules.specs.Ledger.{Ledger, Outcome, outcome, rowOf, written, lengthsRight, fresh, freshHeader, setHeader}
 use Rattle.rules.specs.Record.{wellFormed, encode, accepted, decode, readOf, nothing, Written, writeOf}
@@ -30,7 +30,7 @@ use Rattle.rules.proofs.Calls.{by-answer, number-is}
 
 pub on-the-list : On-the-list
 unfolding answerOf
-on-the-list L b = subst (λ (n : ℕ). n ≤ 40) (sym (number-is L b)) (first-most 40 (refusals L (readOf b)) (table-most L (readOf b)))
+on-the-list L b = subst (λ (n : ℕ). n ≤ LAST-ANSWER) (sym (number-is L b)) (first-most LAST-ANSWER (refusals L (readOf b)) (table-most L (readOf b)))
 
 pub refusal-changes-nothing : Refusal-changes-nothing
 refusal-changes-nothing L b ne = record {

@@ -1,6 +1,7 @@
 -- Laws of the table of refusals. Of any list of rows: the answer is 0 exactly if no row holds, else the number of the first that holds; a
--- group that refuses is the whole answer, and one that does not leaves it to the next. Of the table: its numbers are 1 to 40, which is
--- computed. Proofs ask for a row by its number (`passed`), so a row put in between moves none of them.
+-- group that refuses is the whole answer, and one that does not leaves it to the next. Of the table: its numbers are 1 to the last answer's,
+-- which is computed, and in what order they stand is nowhere asked. Proofs ask for a row by its number (`passed`), so a row put in between
+-- moves none of them.
 use mathlib.Core.Path.{_≡_, refl, sym, ap, _∙_}
 use mathlib.Core.Logic.{_≢_}
 use mathlib.Core.List.{List, [], _∷_, _++_}
@@ -9,6 +10,7 @@ use Prim.Native.Nat.{ℕ, _≤_, _<_}
 use native.Mathlib.Omega.{arith}
 use lib.Dec.{eqb, ltb, leb}
 use borrow.Author.Tests.{ltb-true, leb-true, eq-eqb}
+use Rattle.rules.specs.Limits.{LAST-ANSWER}
 use Rattle.rules.specs.Ledger.{Ledger}
 use Rattle.rules.specs.Refusals.{Refusal, row, first, refusals, entryRefusals, envelopeRefusals, operationRefusals}
 use Rattle.rules.specs.Submit.{answerOf}
@@ -125,7 +127,7 @@ pub table-numbered : (L : Ledger) (r : Read) → numbered (refusals L r) ≡ tru
 unfolding refusals entryRefusals envelopeRefusals operationRefusals
 table-numbered L r = refl
 
-pub table-most : (L : Ledger) (r : Read) → atMost 40 (refusals L r) ≡ true
+pub table-most : (L : Ledger) (r : Read) → atMost LAST-ANSWER (refusals L r) ≡ true
 unfolding refusals entryRefusals envelopeRefusals operationRefusals
 table-most L r = refl
 

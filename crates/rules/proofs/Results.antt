@@ -4,7 +4,7 @@ use mathlib.Core.Logic.{_≢_, _⊎_, inl, inr}
 use mathlib.Core.List.{List, []}
 use Prim.Native.Nat.{ℕ, _≤_}
 use lib.ListN.{length, List·getD-eq-default}
-use Rattle.rules.specs.Limits.{WALLET-LEN, RECEIPT-LEN, ESCROWS, RECEIPTS, MAX-ESCROWS, MAX-RECEIPTS, NOT-REPLAYED}
+use Rattle.rules.specs.Limits.{WALLET-LEN, RECEIPT-LEN, ESCROWS, RECEIPTS, MAX-ESCROWS, MAX-RECEIPTS, NOT-REPLAYED, LAST-ANSWER}
 use Rattle.rules.specs.Table.{rowsIn}
 use Rattle.rules.specs.Ledger.{Edition, Ledger, Outcome, outcome, setHeader, freshHeader}
 use Rattle.rules.specs.Record.{readOf, nothing, Written}
@@ -42,9 +42,9 @@ module _ (lent left : Ledger) (bytes : List ℕ) (number word : ℕ) (m : outcom
   left-of : left ≡ submit lent bytes .left
   left-of = ap (λ (o : Outcome). o .left) m
 
-  listed-submit : (number ≤ 40) × (number ≢ 0 → (word ≡ 0) × (left ≡ lent))
+  listed-submit : (number ≤ LAST-ANSWER) × (number ≢ 0 → (word ≡ 0) × (left ≡ lent))
   listed-submit = (
-    subst (λ (n : ℕ). n ≤ 40) (sym number-of) (on-the-list lent bytes),
+    subst (λ (n : ℕ). n ≤ LAST-ANSWER) (sym number-of) (on-the-list lent bytes),
     λ n. let r : Refused lent bytes = refusal-changes-nothing lent bytes (λ z. n (number-of ∙ z)) in (word-of ∙ r .word, left-of ∙ r .left),
   )
 

@@ -6,7 +6,7 @@ use Prim.Native.Nat.{ℕ, _+_, _-_, _≤_, _<_}
 use lib.Dec.{eqb, ltb, lit<}
 use borrow.Author.Tests.{ltb-true}
 use Rattle.rules.specs.Limits.{WALLET-LEN, RECEIPT-LEN}
-use Rattle.rules.specs.Limits.{BALANCE, FROZEN, TX-CAP, DAILY-CAP, FROM, TO, ESCROW-DEADLINE, ESCROW-STATE, REQUESTER, RECEIPT-STATE, PENDING}
+use Rattle.rules.specs.Limits.{BALANCE, FROZEN, TX-CAP, DAILY-CAP, FROM, TO, ESCROW-DEADLINE, ESCROW-STATE, REQUESTER, ACCEPTANCE-DEADLINE, RECEIPT-STATE, PENDING}
 use Rattle.rules.specs.Limits.{SIGNER, NONCE, OPERATION, ENTRY-AMOUNT, SETTLED-AT, ADMIN}
 use Rattle.rules.specs.Ledger.{Ledger, receipt, escrowCount, receiptCount, walletOf, written}
 use Rattle.rules.specs.Refusals.{clear, seenIn, seen, countedOf, counted, sender, ofEscrow, ofReceipt, releasable}
@@ -76,6 +76,7 @@ module _ (K L : Ledger) (a : Same-written K L) (wide : 8 ≤ L .edition .escrow)
         of-escrow-same K L a wide (s .link) (λ x y. ltb x (s .until)) ESCROW-DEADLINE ESCROW-DEADLINE (lit< tt) (lit< tt),
         of-receipt-same (s .target) (λ x. not (eqb (s .signer) x)) REQUESTER (lit< tt),
         of-receipt-same (s .target) (λ x. not (eqb x PENDING)) RECEIPT-STATE (lit< tt),
+        of-receipt-same (s .target) (λ x. ltb x (s .now)) ACCEPTANCE-DEADLINE (lit< tt),
         has-same K L a (s .signer),
         has-same K L a (s .target),
         a .header,

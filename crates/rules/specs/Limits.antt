@@ -308,7 +308,7 @@ GRID-ROWS = LAST-OPERATION + 1
 
 -- the last answer, and how many there are: the statuses, and the report's columns
 abbrev pub LAST-ANSWER : ℕ
-LAST-ANSWER = 40
+LAST-ANSWER = 41
 
 abbrev pub ANSWERS : ℕ
 ANSWERS = LAST-ANSWER + 1

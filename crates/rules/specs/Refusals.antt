@@ -1,5 +1,5 @@
--- Section "Numbered answers, in order of check": one table, a row for each number. Each condition is exact by itself: where it speaks of
--- a row, it says that the row is there.
+-- Section "Numbered answers, in order of check": one table, a row for each number. The order of check is that of the rows, not of the numbers:
+-- 41 stands between 34 and 35. Each condition is exact by itself: where it speaks of a row, it says that the row is there.
 use mathlib.Core.List.{List, [], _∷_, _++_}
 use mathlib.Core.Bool.{Bool, false, not, cond, _&&_, _||_}
 use Prim.Native.Nat.{ℕ, _+_, _-_}
@@ -8,7 +8,7 @@ use Rattle.rules.specs.Limits.{WALLET-LEN, RECEIPT-LEN, JOURNAL-LEN, MAX
 use Rattle.rules.specs.Limits.{MAX-SKEW-MS, MAX-ENVELOPE-MS, DAY-MS, MAX-HOLD-MS, MIN-ACCEPTANCE-MS, MAX-ACCEPTANCE-MS}
 use Rattle.rules.specs.Limits.{GRANT, TRANSFER, OPEN, RELEASE, REFUND, CLAIM, ACCEPT, DISPUTE, SWEEP, FREEZE, CAPS}
 use Rattle.rules.specs.Limits.{SIGNATURE-HELD, ADMIN, REASON-GIVEN, SYSTEM-FROZEN, CLOCK, GRANTED, BALANCE, FROZEN, TX-CAP, DAILY-CAP}
-use Rattle.rules.specs.Limits.{FROM, TO, ESCROW-DEADLINE, ESCROW-STATE, REQUESTER, RECEIPT-STATE, IS-OPEN, PENDING}
+use Rattle.rules.specs.Limits.{FROM, TO, ESCROW-DEADLINE, ESCROW-STATE, REQUESTER, ACCEPTANCE-DEADLINE, RECEIPT-STATE, IS-OPEN, PENDING}
 use Rattle.rules.specs.Limits.{SIGNER, NONCE, OPERATION, ENTRY-AMOUNT, SETTLED-AT}
 use Rattle.rules.specs.Table.{word, some, sum, all}
 use Rattle.rules.specs.Ledger.{Ledger, head, escrow, receipt, walletCount, escrowCount, receiptCount, entryCount, hasWallet, walletOf, written, full, lengthsRight}
@@ -94,6 +94,10 @@ linked s b = on s (CLAIM ∷ []) (not (eqb (s .link) 0) && b)
 abbrev pub closing : List ℕ
 closing = RELEASE ∷ REFUND ∷ []
 
+-- the requester's replies to a claim
+abbrev pub replying : List ℕ
+replying = ACCEPT ∷ DISPUTE ∷ []
+
 -- the lent tables and the record
 unfoldable pub entryRefusals : Ledger → Read → List Refusal
 entryRefusals L r =
@@ -144,9 +148,10 @@ operationRefusals L s =
     ∷ row 30
     (linked s (ofEscrow L (s .link) (not (eqb (escrow L (s .link - 1) FROM) (s .target)) || not (eqb (escrow L (s .link - 1) TO) (s .signer)))))
     ∷ row 31 (linked s (ofEscrow L (s .link) (ltb (escrow L (s .link - 1) ESCROW-DEADLINE) (s .until))))
-    ∷ row 32 (on s (ACCEPT ∷ DISPUTE ∷ []) (not (written (receiptCount L) (s .target))))
-    ∷ row 33 (on s (ACCEPT ∷ DISPUTE ∷ []) (ofReceipt L (s .target) (not (eqb (s .signer) (receipt L (s .target - 1) REQUESTER)))))
-    ∷ row 34 (on s (ACCEPT ∷ DISPUTE ∷ []) (ofReceipt L (s .target) (not (eqb (receipt L (s .target - 1) RECEIPT-STATE) PENDING))))
+    ∷ row 32 (on s replying (not (written (receiptCount L) (s .target))))
+    ∷ row 33 (on s replying (ofReceipt L (s .target) (not (eqb (s .signer) (receipt L (s .target - 1) REQUESTER)))))
+    ∷ row 34 (on s replying (ofReceipt L (s .target) (not (eqb (receipt L (s .target - 1) RECEIPT-STATE) PENDING))))
+    ∷ row 41 (on s replying (ofReceipt L (s .target) (ltb (receipt L (s .target - 1) ACCEPTANCE-DEADLINE) (s .now))))
     ∷ row 35 (on s (DISPUTE ∷ []) (clear s REASON-GIVEN))
     ∷ row 36 (on s (GRANT ∷ []) (ltb MAX-GRANTED-MICRO (head L GRANTED + s .amount)))
     ∷ row 37 (on s (GRANT ∷ TRANSFER ∷ OPEN ∷ []) (not (hasWallet L (s .target)) && full WALLET-LEN (L .wallets) (walletCount L)))

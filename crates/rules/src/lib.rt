@@ -138,6 +138,7 @@ const STATUSES: [u64; ANSWERS] = [
     507,
     507,
     507,
+    409,
 ];
 
 // The status of an answer; any other number has 500.

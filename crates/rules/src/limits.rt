@@ -184,7 +184,7 @@ pub const LAST_OPERATION: u8 = CAPS;
 pub const GRID_ROWS: usize = LAST_OPERATION as usize + 1;
 
 // The last answer, and how many there are: the statuses, and the report's columns. A later answer widens both here.
-pub const LAST_ANSWER: u64 = 40;
+pub const LAST_ANSWER: u64 = 41;
 
 pub const ANSWERS: usize = LAST_ANSWER as usize + 1;
 

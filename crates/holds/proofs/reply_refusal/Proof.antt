@@ -30,6 +30,9 @@ receipt-requires c κs = (names c, search needs)
 receipt-requires-2 : tie.Need-receipt-requires-2
 receipt-requires-2 c κs = (names (c .before), search needs)
 
+receipt-requires-3 : tie.Need-receipt-requires-3
+receipt-requires-3 c κs = (names (c .before .before), search needs)
+
 choose-requires : tie.Need-choose-requires
 choose-requires c κs = search needs
 
@@ -45,20 +48,25 @@ choose-requires-4 c κs = search needs
 choose-requires-5 : tie.Need-choose-requires-5
 choose-requires-5 c κs = search needs
 
+choose-requires-6 : tie.Need-choose-requires-6
+choose-requires-6 c κs = search needs
+
 returns : tie.Need-returns
 returns c =
-    let read = c .before .before .before .before .before .before .before .before .before .before in
-    let start = read .before .before .before .before .before .before .before .before in
-    λ K. reply-by (K .edition) _ (K .wallets) (K .escrows) _ _ _ _ _ _ _ _ _ _ _
+    let read = c .before .before .before .before .before .before .before .before .before .before .before .before in
+    let start = read .before .before .before .before .before .before .before .before .before in
+    λ K. reply-by (K .edition) _ (K .wallets) (K .escrows) _ _ _ _ _ _ _ _ _ _ _ _ _
     (start .pre .2)
-    (read .before .before .receipt-named .ensures)
-    (read .before .receipt .ensures)
-    (read .receipt2 .ensures)
-    (c .before .before .before .before .choose .ensures)
-    (c .before .before .before .choose2 .ensures)
-    (c .before .before .choose3 .ensures)
-    (c .before .choose4 .ensures)
-    (c .choose5 .ensures)
+    (read .before .before .before .receipt-named .ensures)
+    (read .before .before .receipt .ensures)
+    (read .before .receipt2 .ensures)
+    (read .receipt3 .ensures)
+    (c .before .before .before .before .before .choose .ensures)
+    (c .before .before .before .before .choose2 .ensures)
+    (c .before .before .before .choose3 .ensures)
+    (c .before .before .choose4 .ensures)
+    (c .before .choose5 .ensures)
+    (c .choose6 .ensures)
 
 pub reply-refusal-spec : {M : Type 1} → statement M
 reply-refusal-spec =
@@ -69,9 +77,11 @@ reply-refusal-spec =
     receipt-named-requires
     receipt-requires
     receipt-requires-2
+    receipt-requires-3
     choose-requires
     choose-requires-2
     choose-requires-3
     choose-requires-4
     choose-requires-5
+    choose-requires-6
     returns)
