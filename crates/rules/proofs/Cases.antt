@@ -27,7 +27,7 @@ Each (c ∷ cs) = Goes (c .label) (c .trial) × Each cs
 
 each-goes : Each cases
 unfolding sum every some seek loop rowOf putHead putWallet putEscrow putReceipt newWallet newEscrow newReceipt newEntry lengthsRight fresh usesOf wellFormed decode encode accepted readOf heldIn credits sound seenIn seen countedOf counted entryRefusals envelopeRefusals operationRefusals refusals raise lower ensureWallet endEscrow closeReceipt acceptRow closeDueReceipt closeDueEscrow sweepReceipt sweepEscrow sweptReceipts swept grant transfer openEscrow release refund claim accept dispute sweep freeze caps operate enter settle answerOf submitRead submit entryAt entriesFrom through compared ended replayOn replay endedAs addsOf tallied passing stopped reported reportOn report
-each-goes = (refl, (refl, (refl, (refl, (refl, (refl, (refl, (refl, (refl, (refl, (refl, (refl, (refl, (refl, (refl, (refl, (refl, (refl, (refl, (refl, (refl, (refl, (refl, (refl, (refl, (refl, (refl, (refl, (refl, (refl, (refl, (refl, (refl, (refl, (refl, (refl, (refl, (refl, (refl, (refl, (refl, (refl, (refl, (refl, (refl, (refl, (refl, tt)))))))))))))))))))))))))))))))))))))))))))))))
+each-goes = (refl, (refl, (refl, (refl, (refl, (refl, (refl, (refl, (refl, (refl, (refl, (refl, (refl, (refl, (refl, (refl, (refl, (refl, (refl, (refl, (refl, (refl, (refl, (refl, (refl, (refl, (refl, (refl, (refl, (refl, (refl, (refl, (refl, (refl, (refl, (refl, (refl, (refl, (refl, (refl, (refl, (refl, (refl, (refl, (refl, (refl, (refl, (refl, (refl, (refl, (refl, (refl, (refl, (refl, (refl, tt)))))))))))))))))))))))))))))))))))))))))))))))))))))))
 
 none-fails : (cs : List Case) → Each cs → failing cs ≡ []
 none-fails [] e = refl

@@ -2,7 +2,7 @@
 use mathlib.Core.List.{List, [], _∷_}
 use Prim.Native.Nat.{ℕ, _+_}
 use lib.ListN.{set, replicate}
-use Rattle.rules.specs.Limits.{GRANT, TRANSFER, OPEN, RELEASE, REFUND, CLAIM, ACCEPT, SWEEP, CAPS, ALL-AGREE, FIGURES}
+use Rattle.rules.specs.Limits.{GRANT, TRANSFER, OPEN, RELEASE, REFUND, CLAIM, ACCEPT, DISPUTE, SWEEP, CAPS, ALL-AGREE, FIGURES}
 use Rattle.rules.specs.Record.{encode}
 use Rattle.rules.specs.Recording.{Entry, asEntry}
 use Rattle.rules.specs.Replay.{answer, verdict}
@@ -140,3 +140,25 @@ again x = step (x .submission) 11 0
 -- a grant of 1 to 7 at 1,000 by an admin, with this nonce; and the answer
 abbrev pub grants-1 : ℕ → ℕ → ℕ → Step
 grants-1 admin nonce number = step (sub GRANT 0b0011 1_000 admin nonce 1_000 2_000 7 1 0 0) number 0
+
+-- ---- Request 5: no objection after the window
+
+-- the acceptance deadline of `claims` and `claims-auto`, a millisecond later, and two days later
+abbrev pub WINDOW-ENDS-MS : ℕ
+WINDOW-ENDS-MS = 400_000
+
+abbrev pub WINDOW-OVER-MS : ℕ
+WINDOW-OVER-MS = 400_001
+
+abbrev pub TWO-DAYS-LATE-MS : ℕ
+TWO-DAYS-LATE-MS = 173_200_000
+
+-- a signer accepts a receipt, disputes it with a reason, and without one
+abbrev pub accepts-at : ℕ → ℕ → ℕ → ℕ → Submission
+accepts-at now signer nonce number = sub ACCEPT 0b0001 now signer nonce now (now + 1_000) number 0 0 0
+
+abbrev pub disputes-at : ℕ → ℕ → ℕ → ℕ → Submission
+disputes-at now signer nonce number = sub DISPUTE 0b1001 now signer nonce now (now + 1_000) number 0 0 0
+
+abbrev pub disputes-bare : ℕ → ℕ → ℕ → ℕ → Submission
+disputes-bare now signer nonce number = sub DISPUTE 0b0001 now signer nonce now (now + 1_000) number 0 0 0

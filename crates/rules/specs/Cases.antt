@@ -11,6 +11,7 @@ use Rattle.rules.specs.Report.{reportOf, blank-report}
 use Rattle.rules.specs.Trials.{replays, reports, Case, ODD-WORD, tables, sub, case, step, leaves, has, entry, entry-as, recorded, added, added-leaving, counted, reported-from}
 use Rattle.rules.specs.CaseSteps.{P1, opening, P2, P3, releases, P4, transfers, enveloped, opens, claims, accepts, sweeps, all-agree, capped, grants-8, holds-by, DAY-ENDS-MS, DAY-OVER-MS, transfers-1, opens-1}
 use Rattle.rules.specs.CaseSteps.{sent, unmarked, bare, refunds-2000, releases-2000, sweeps-at, claims-auto, brought, NONE-YET, NOTHING-NAMED, pays-1, again, grants-1}
+use Rattle.rules.specs.CaseSteps.{WINDOW-ENDS-MS, WINDOW-OVER-MS, TWO-DAYS-LATE-MS, accepts-at, disputes-at, disputes-bare}
 
 -- THE TABLE
 abbrev pub cases : List Case
@@ -157,7 +158,7 @@ cases =
         named = NOTHING-NAMED;
       });
     }
-    -- the last answer: a journal of one row
+    -- a full journal: one of one row
     ∷ record {
       label = 317;
       trial = reports (record {
@@ -177,4 +178,46 @@ cases =
     ∷ pays-1 8 40 ∷ grants-1 1 7 40 ∷ [])
     -- rows that are not written have this signer and nonce in every word, and are not looked at
     ∷ case 402 (grants-1 ODD-WORD ODD-WORD 0 ∷ grants-1 ODD-WORD ODD-WORD 11 ∷ [])
+    -- a reply one millisecond after the acceptance deadline is refused and uses up no nonce, and at the deadline it settles: an accept, and a dispute
+    ∷ case 501
+    (P1 ∷ P2 ∷ step (claims 1) 0 1 ∷ leaves (accepts-at WINDOW-OVER-MS 7 2 1) 41 0 (has 7 30_000_000 20_000_000 ∷ has 8 0 0 ∷ [])
+    ∷ leaves (accepts-at WINDOW-ENDS-MS 7 2 1) 0 1 (has 7 30_000_000 0 ∷ has 8 20_000_000 0 ∷ []) ∷ [])
+    ∷ case 502
+    (P1 ∷ P2 ∷ step (claims 1) 0 1 ∷ step (disputes-at WINDOW-OVER-MS 7 2 1) 41 0
+    ∷ leaves (disputes-at WINDOW-ENDS-MS 7 2 1) 0 0 (has 7 30_000_000 20_000_000 ∷ has 8 0 0 ∷ []) ∷ [])
+    -- a closed receipt past its deadline: accepted, disputed, and expired by a sweep
+    ∷ case 503
+    (P1 ∷ P2 ∷ step (claims 1) 0 1 ∷ step (claims 2) 0 2 ∷ step (claims 3) 0 3 ∷ step (accepts-at WINDOW-ENDS-MS 7 2 1) 0 1
+    ∷ step (disputes-at WINDOW-ENDS-MS 7 3 2) 0 0 ∷ step (sweeps-at WINDOW-OVER-MS 1) 0 1
+    ∷ step (accepts-at WINDOW-OVER-MS 7 4 1) 34 0 ∷ step (disputes-at WINDOW-OVER-MS 7 4 1) 34 0
+    ∷ step (accepts-at WINDOW-OVER-MS 7 4 2) 34 0 ∷ step (disputes-at WINDOW-OVER-MS 7 4 2) 34 0
+    ∷ step (accepts-at WINDOW-OVER-MS 7 4 3) 34 0 ∷ step (disputes-bare WINDOW-OVER-MS 7 4 3) 34 0 ∷ [])
+    -- a dispute without a reason, past the deadline and at it
+    ∷ case 504
+    (P1 ∷ P2 ∷ step (claims 1) 0 1 ∷ step (disputes-bare WINDOW-OVER-MS 7 2 1) 41 0 ∷ step (disputes-bare WINDOW-ENDS-MS 7 2 1) 35 0 ∷ [])
+    -- past the deadline, by another signer; and of a receipt that there is not
+    ∷ case 505
+    (P1 ∷ P2 ∷ step (claims 1) 0 1 ∷ step (accepts-at WINDOW-OVER-MS 8 2 1) 33 0 ∷ step (disputes-bare WINDOW-OVER-MS 8 2 1) 33 0
+    ∷ step (accepts-at WINDOW-OVER-MS 7 2 2) 32 0 ∷ step (disputes-at WINDOW-OVER-MS 7 2 0) 32 0 ∷ [])
+    -- on a full journal
+    ∷ case 506
+    (P1 ∷ P2 ∷ step (claims 1) 0 1 ∷ pays-1 2 0 ∷ pays-1 3 0 ∷ pays-1 4 0 ∷ pays-1 5 0 ∷ pays-1 6 0
+    ∷ step (disputes-at WINDOW-OVER-MS 7 8 1) 41 0 ∷ step (disputes-at WINDOW-ENDS-MS 7 8 1) 40 0 ∷ [])
+    -- two days late: the skipper can no longer reply, and the sweep does what it would have done; a claim to be accepted by itself is, too late for its escrow
+    ∷ case 507
+    (P1 ∷ P2 ∷ step (claims 1) 0 1 ∷ step (claims-auto 2) 0 2 ∷ step (disputes-at TWO-DAYS-LATE-MS 7 2 1) 41 0
+    ∷ step (accepts-at TWO-DAYS-LATE-MS 7 2 2) 41 0
+    ∷ record {
+      submission = sweeps-at TWO-DAYS-LATE-MS 3;
+      number = 0;
+      word = 3;
+      has = has 7 50_000_000 0 ∷ has 8 0 0 ∷ [];
+      codes = record { number = 1; code = 0 } ∷ record { number = 2; code = 29 } ∷ [];
+    }
+    ∷ [])
+    -- the report's last column
+    ∷ reported-from 508 blank-report
+    (added (entry P1 ∷ entry P2 ∷ sent (claims 1) ∷ sent (accepts-at WINDOW-OVER-MS 7 2 1) ∷ sent (disputes-at WINDOW-OVER-MS 7 2 1) ∷ []) 5
+    (has 7 30_000_000 20_000_000 ∷ []) ∷ [])
+    (counted 1 0 1 ∷ counted 3 0 1 ∷ counted 6 0 1 ∷ counted 7 41 1 ∷ counted 8 41 1 ∷ []) (50_000_000 ∷ 0 ∷ 0 ∷ 0 ∷ 0 ∷ []) NOTHING-NAMED
     ∷ []
