@@ -18,7 +18,7 @@ use Rattle.rules.specs.Refusals.{releasable}
 use Rattle.rules.specs.Settle.{raise, lower, endEscrow, closeReceipt, Done, done, acceptRow}
 use Rattle.rules.specs.History.{Book, Deal, Note, at, ends, closes, tries}
 use Rattle.rules.proofs.Bools.{and-fst}
-use Rattle.rules.proofs.Rows.{rows-fit, in-table, word-col}
+use Rattle.rules.proofs.Rows.{rows-fit, in-table, word-row, word-col}
 use Rattle.rules.proofs.Accounts.{bal, total, Distinct}
 use Rattle.rules.proofs.Moves.{mv, distinct-mv, shut, shut-col, shut-row, shut-same}
 use Rattle.rules.proofs.Good.{GoodTables, Good}
@@ -47,6 +47,7 @@ pub record Recs (t : List ℕ) (n claims : ℕ) (note : ℕ → Note) (waiting :
   pub until : (i : ℕ) → i < n → word t RECEIPT-LEN i ACCEPTANCE-DEADLINE ≡ note i .until
   pub auto : (i : ℕ) → i < n → word t RECEIPT-LEN i AUTO-ACCEPT ≡ note i .auto
   pub pending : (i : ℕ) → i < n → eqb (word t RECEIPT-LEN i RECEIPT-STATE) PENDING ≡ waiting i
+  pub code : (i : ℕ) → i < n → waiting i ≡ true → word t RECEIPT-LEN i RELEASE-CODE ≡ 0
 
 abbrev pub AccOf : List ℕ → ℕ → ℕ → Book → Type 0
 AccOf t n g B = Acc t n g (B .came) (B .went) (B .held) (B .freed) (B .granted)
@@ -158,16 +159,18 @@ fits-end L B g f i i< o st now signer c = record {
 
 -- ---- a receipt is closed
 
--- where the words before the state stay, the rest is the state
+-- where the words before the state stay, the rest is the state, and the release code of those that wait
 recs-early : (t t′ : List ℕ) (n claims : ℕ) (note : ℕ → Note) (waiting waiting′ : ℕ → Bool)
     → ((j k : ℕ) → k < RECEIPT-STATE → word t′ RECEIPT-LEN j k ≡ word t RECEIPT-LEN j k)
-    → ((j : ℕ) → j < n → eqb (word t′ RECEIPT-LEN j RECEIPT-STATE) PENDING ≡ waiting′ j) → Recs t n claims note waiting → Recs t′ n claims note waiting′
-recs-early t t′ n claims note waiting waiting′ early pending r = record {
+    → ((j : ℕ) → j < n → eqb (word t′ RECEIPT-LEN j RECEIPT-STATE) PENDING ≡ waiting′ j)
+    → ((j : ℕ) → j < n → waiting′ j ≡ true → word t′ RECEIPT-LEN j RELEASE-CODE ≡ 0) → Recs t n claims note waiting → Recs t′ n claims note waiting′
+recs-early t t′ n claims note waiting waiting′ early pending code r = record {
   count = r .count;
   link = λ j h. early j RECEIPT-LINK (lit< tt) ∙ r .link j h;
   until = λ j h. early j ACCEPTANCE-DEADLINE (lit< tt) ∙ r .until j h;
   auto = λ j h. early j AUTO-ACCEPT (lit< tt) ∙ r .auto j h;
   pending = pending;
+  code = code;
 }
 
 closed-recs : (t : List ℕ) (n : ℕ) (B : Book) (i st now signer : ℕ) → n ≤ rowsIn RECEIPT-LEN t → i < n → eqb st PENDING ≡ false → RecsOf t n B
@@ -185,6 +188,12 @@ closed-recs t n B i st now signer rows-in i< closed r =
     ap (λ (x : ℕ). eqb x PENDING)
     (shut-row t RECEIPT-LEN i RECEIPT-STATE st RECEIPT-CLOSED-AT now RECEIPT-CLOSED-BY signer (lit< tt) (lit< tt) (lit< tt) j RECEIPT-STATE (lit< tt) e)
     ∙ r .pending j h))
+    (λ j h.
+    at-cases (λ (b : Bool). b ≡ true → word t′ RECEIPT-LEN j RELEASE-CODE ≡ 0) i j false (B .pending) (λ e w. absurd (true≢false (sym w)))
+    (λ e w.
+    shut-col t RECEIPT-LEN i RECEIPT-STATE st RECEIPT-CLOSED-AT now RECEIPT-CLOSED-BY signer (lit< tt) (lit< tt) (lit< tt) j RELEASE-CODE (lit< tt)
+    (omega arith) (omega arith) (omega arith)
+    ∙ r .code j h w))
     r
   where
     t′ : List ℕ
@@ -204,9 +213,10 @@ fits-close L B g f i i< st now signer c = record {
   recs = closed-recs (L .receipts) (receiptCount L) B i st now signer (g .receipts-in) i< c (f .recs);
 }
 
-fits-code : (L : Ledger) (B : Book) → Fits L B → (i x : ℕ) → Fits (putReceipt i RELEASE-CODE x L) B
+-- the release code of a receipt that does not wait
+fits-code : (L : Ledger) (B : Book) → Fits L B → (i x : ℕ) → B .pending i ≡ false → Fits (putReceipt i RELEASE-CODE x L) B
 unfolding putReceipt
-fits-code L B f i x =
+fits-code L B f i x over =
     let t : List ℕ = L .receipts in
     let same : (j k : ℕ) → k < RELEASE-CODE → word (put t RECEIPT-LEN i RELEASE-CODE x) RECEIPT-LEN j k ≡ word t RECEIPT-LEN j k =
     λ j k h. word-col t RECEIPT-LEN i RELEASE-CODE x j k (lit< tt) (omega arith) (omega arith) in
@@ -214,7 +224,10 @@ fits-code L B f i x =
       acc = f .acc;
       escs = f .escs;
       recs = recs-early t (put t RECEIPT-LEN i RELEASE-CODE x) (receiptCount L) (B .claims) (B .note) (B .pending) (B .pending) (λ j k h. same j k (omega arith))
-          (λ j h. ap (λ (y : ℕ). eqb y PENDING) (same j RECEIPT-STATE (lit< tt)) ∙ f .recs .pending j h) (f .recs);
+          (λ j h. ap (λ (y : ℕ). eqb y PENDING) (same j RECEIPT-STATE (lit< tt)) ∙ f .recs .pending j h)
+          (λ j h w.
+          word-row t RECEIPT-LEN i RELEASE-CODE x j RELEASE-CODE (lit< tt) (lit< tt) (λ e. true≢false (sym w ∙ ap (B .pending) e ∙ over)) ∙ f .recs .code j h w)
+          (f .recs);
     }
 
 -- ---- an accept, and what its word says
@@ -245,4 +258,7 @@ fits-accept L B g f i i< now signer now-right =
           (unfold closes in sym (f .escs .live (k - 1) k<) ∙ and-fst (eqb (escrow L (k - 1) ESCROW-STATE) IS-OPEN) _ h) RELEASED now signer refl;
       named = ap (λ (b : Bool). cond b (closes i B) (ends true (k - 1) (closes i B))) e;
     })
-    (λ h. record { fits = fits-code closed (closes i B) shut-it i RELEASE-IMPOSSIBLE; named = refl })))
+    (λ h. record {
+      fits = fits-code closed (closes i B) shut-it i RELEASE-IMPOSSIBLE (unfold closes in at-cases (λ (b : Bool). b ≡ false) i i false (B .pending) (λ e. refl) (λ ne. absurd (ne refl)));
+      named = refl;
+    })))

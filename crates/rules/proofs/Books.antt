@@ -13,7 +13,7 @@ use Rattle.rules.specs.Limits.{GRANTED, WALLETS, ESCROWS, RECEIPTS, ID, 
 use Rattle.rules.specs.Ledger.{Ledger, Outcome, outcome, wallet, walletCount, rowOf, lengthsRight, setHeader, freshHeader, fresh}
 use Rattle.rules.specs.Record.{readOf}
 use Rattle.rules.specs.Sound.{credits}
-use Rattle.rules.specs.Refusals.{oneOf, paying, closing}
+use Rattle.rules.specs.Refusals.{oneOf, paying, closing, replying}
 use Rattle.rules.specs.Settle.{operations, idle, operate, settle, openEscrow, claim}
 use Rattle.rules.specs.Submit.{answerOf, submit}
 use Rattle.rules.specs.History.{Call, starts-afresh, submits, reads, writes, asks-status, finds-wallet, finds-escrow, finds-receipt, Said, saidOf, Event, begun, after, said, Book, blank, sayings, says-nothing, enters, hears, bookFrom, bookOf}
@@ -37,15 +37,12 @@ use Rattle.rules.proofs.Operations.{fits-grant, fits-transfer, fits-ope
 
 -- ---- one settled submission
 
--- the operations that may make a wallet, those that name a party, those that answer a claim
+-- the operations that may make a wallet, and those that name a party
 abbrev making : List ℕ
 making = GRANT ∷ TRANSFER ∷ OPEN ∷ []
 
 abbrev targeted : List ℕ
 targeted = GRANT ∷ TRANSFER ∷ OPEN ∷ CLAIM ∷ []
-
-abbrev answering : List ℕ
-answering = ACCEPT ∷ DISPUTE ∷ []
 
 -- what is said of a settled submission whose operation is o
 abbrev saidAt : ℕ → Submission → Ledger → Said
@@ -87,8 +84,8 @@ module _ (L : Ledger) (r : Read) (B : Book) (lent : Lent L) (f : Fits L B) (z : 
       (λ e. fits-release (saidAt RELEASE s L) L B g f (escrow-row L r z (ap (oneOf closing) e)) (escrow-open L r z (ap (oneOf closing) e)))
       (λ e. fits-refund (saidAt REFUND s L) L B g f (escrow-row L r z (ap (oneOf closing) e)) (escrow-open L r z (ap (oneOf closing) e)))
       (λ e. fits-claim (saidAt CLAIM s L) L B f wide (receipt-place L r z (ap (oneOf (CLAIM ∷ [])) e)) refl)
-      (λ e. fits-accepts (saidAt ACCEPT s L) L B g f (receipt-row L r z (ap (oneOf answering) e)) (form .now-right) refl)
-      (λ e. fits-dispute (saidAt DISPUTE s L) L B g f (receipt-row L r z (ap (oneOf answering) e)))
+      (λ e. fits-accepts (saidAt ACCEPT s L) L B g f (receipt-row L r z (ap (oneOf replying) e)) (form .now-right) refl)
+      (λ e. fits-dispute (saidAt DISPUTE s L) L B g f (receipt-row L r z (ap (oneOf replying) e)))
       (λ e. fits-sweeps (saidAt SWEEP s L) L B g f (form .now-right))
       (λ e. fits-freeze s L B f)
       (λ e. fits-caps s L B f)
@@ -99,7 +96,7 @@ none : (i : ℕ) → i < 0 → ⊥
 none i l = omega arith
 
 -- a fresh ledger and the blank book
-fits-fresh : (L : Ledger) → lengthsRight L ≡ true → Fits (started L) blank
+pub fits-fresh : (L : Ledger) → lengthsRight L ≡ true → Fits (started L) blank
 unfolding fresh
 fits-fresh L h =
     cond-case (λ (o : Outcome). Fits (o .left) blank) (lengthsRight L) (outcome 0 0 (setHeader (freshHeader (L .edition)) L)) (outcome 1 0 L)
@@ -122,16 +119,17 @@ fits-fresh L h =
       until = λ i l. absurd (none i l);
       auto = λ i l. absurd (none i l);
       pending = λ i l. absurd (none i l);
+      code = λ i l. absurd (none i l);
     }))
     (λ e. absurd (true≢false (sym h ∙ e)))
 
 -- so the book begins again with the ledger
-fits-begun : (L : Ledger) (B : Book) → Lent L → Fits (started L) (hears (begun (fresh L .number)) B)
+pub fits-begun : (L : Ledger) (B : Book) → Lent L → Fits (started L) (hears (begun (fresh L .number)) B)
 fits-begun L B lent = subst (λ (n : ℕ). Fits (started L) (hears (begun n) B)) (sym (fresh-zero L (lent .lengths))) (fits-fresh L (lent .lengths))
 
 -- ---- one call, and a list of calls
 
-fits-call : (L : Ledger) (b : List ℕ) (B : Book) → Lent L → Fits L B → Fits (submit L b .left) (enters (saidOf b (submit L b)) B)
+pub fits-call : (L : Ledger) (b : List ℕ) (B : Book) → Lent L → Fits L B → Fits (submit L b .left) (enters (saidOf b (submit L b)) B)
 unfolding enters settle
 fits-call L b B lent f =
     by-answer (λ (o : Outcome). Fits (o .left) (enters (saidOf b o) B)) L b
@@ -143,17 +141,23 @@ fits-call L b B lent f =
     z : Submission
     z = readOf b .submission
 
+-- what a start afresh and a submission keep of ledger and book, a list of calls keeps
+module _ (P : Ledger → Book → Type 0) (begins : (L : Ledger) (B : Book) → Lent L → P L B → P (started L) (hears (begun (fresh L .number)) B))
+    (goes-on : (L : Ledger) (b : List ℕ) (B : Book) → Lent L → P L B → P (submit L b .left) (enters (saidOf b (submit L b)) B)) where
+  pub along : (L : Ledger) (B : Book) → Lent L → P L B → (calls : List Call) → P (after L calls) (bookFrom B (said L calls))
+  along L B lent p [] = p
+  along L B lent p (starts-afresh ∷ cs) = along (started L) (hears (begun (fresh L .number)) B) (lent-started L lent) (begins L B lent p) cs
+  along L B lent p (submits b ∷ cs) =
+      along (submit L b .left) (enters (saidOf b (submit L b)) B) (lent-stays (lengths-submit L b) lent) (goes-on L b B lent p) cs
+  along L B lent p (reads b ∷ cs) = along L B lent p cs
+  along L B lent p (writes s out ∷ cs) = along L B lent p cs
+  along L B lent p (asks-status n ∷ cs) = along L B lent p cs
+  along L B lent p (finds-wallet id ∷ cs) = along L B lent p cs
+  along L B lent p (finds-escrow k ∷ cs) = along L B lent p cs
+  along L B lent p (finds-receipt k ∷ cs) = along L B lent p cs
+
 pub fits-all : (L : Ledger) (B : Book) → Lent L → Fits L B → (calls : List Call) → Fits (after L calls) (bookFrom B (said L calls))
-fits-all L B lent f [] = f
-fits-all L B lent f (starts-afresh ∷ cs) = fits-all (started L) (hears (begun (fresh L .number)) B) (lent-started L lent) (fits-begun L B lent) cs
-fits-all L B lent f (submits b ∷ cs) =
-    fits-all (submit L b .left) (enters (saidOf b (submit L b)) B) (lent-stays (lengths-submit L b) lent) (fits-call L b B lent f) cs
-fits-all L B lent f (reads b ∷ cs) = fits-all L B lent f cs
-fits-all L B lent f (writes s out ∷ cs) = fits-all L B lent f cs
-fits-all L B lent f (asks-status n ∷ cs) = fits-all L B lent f cs
-fits-all L B lent f (finds-wallet id ∷ cs) = fits-all L B lent f cs
-fits-all L B lent f (finds-escrow k ∷ cs) = fits-all L B lent f cs
-fits-all L B lent f (finds-receipt k ∷ cs) = fits-all L B lent f cs
+fits-all = along Fits (λ L B lent f. fits-begun L B lent) fits-call
 
 -- ---- the theorem
 

@@ -9,7 +9,7 @@ use lib.ListN.{getD, length}
 use lib.Seq.{getD-set-other}
 use lib.Dec.{eqb, lit<, lit≤}
 use Rattle.rules.specs.Limits.{WALLET-LEN, RECEIPT-LEN, CLOCK, GRANTED, WALLETS, ESCROWS, RECEIPTS, ENTRIES, BALANCE, LOCKED, AUTO-OR-FREEZE, SWEEP}
-use Rattle.rules.specs.Limits.{FROM, TO, ESCROW-AMOUNT, ESCROW-DEADLINE, ESCROW-STATE, RECEIPT-LINK, ACCEPTANCE-DEADLINE, AUTO-ACCEPT, RECEIPT-STATE, IS-OPEN, PENDING}
+use Rattle.rules.specs.Limits.{FROM, TO, ESCROW-AMOUNT, ESCROW-DEADLINE, ESCROW-STATE, RECEIPT-LINK, ACCEPTANCE-DEADLINE, AUTO-ACCEPT, RECEIPT-STATE, RELEASE-CODE, IS-OPEN, PENDING}
 use Rattle.rules.specs.Table.{word, putRow, rowsIn}
 use Rattle.rules.specs.Ledger.{Edition, Ledger, head, walletCount, escrowCount, receiptCount, rowOf, putHead, putWallet, newEntry}
 use Rattle.rules.specs.Record.{bit}
@@ -179,4 +179,5 @@ recs-claim E t n B a place word-is =
       until = at-new Note (λ (x : ℕ) (e : Note). x ≡ e .until) ACCEPTANCE-DEADLINE (lit< tt) d (B .note) refl (a .until);
       auto = at-new Note (λ (x : ℕ) (e : Note). x ≡ e .auto) AUTO-ACCEPT (lit< tt) d (B .note) refl (a .auto);
       pending = at-new Bool (λ (x : ℕ) (b : Bool). eqb x PENDING ≡ b) RECEIPT-STATE (lit< tt) true (B .pending) refl (a .pending);
+      code = at-new Bool (λ (x : ℕ) (b : Bool). b ≡ true → x ≡ 0) RELEASE-CODE (lit< tt) true (B .pending) (λ w. refl) (a .code);
     }

@@ -41,6 +41,7 @@ pub mod SoundParts
 pub mod SoundAlways
 pub mod Ready
 pub mod Books
+pub mod Window
 -- recordings: an entry further; header and written rows alone decide
 pub mod Through
 pub mod SameTables

@@ -9,11 +9,12 @@ use native.Mathlib.Omega.{arith}
 use lib.Dec.{eqb, leb}
 use borrow.Author.Tests.{eqb-true, eqb-false, ne-eqb, ltb-true, ltb-false, leb-true, leb-false}
 use Rattle.rules.specs.Limits.{WALLET-LEN, RECEIPT-LEN, MAX-AMOUNT-MICRO, MAX-GRANTED-MICRO, MAX-SWEEP-ROWS, GRANTED, BALANCE, FROM, TO, ESCROW-STATE, ESCROW-DEADLINE, IS-OPEN}
-use Rattle.rules.specs.Limits.{GRANT, TRANSFER, OPEN, CLAIM, ACCEPT, DISPUTE, SWEEP}
+use Rattle.rules.specs.Limits.{ACCEPTANCE-DEADLINE, RECEIPT-STATE, PENDING}
+use Rattle.rules.specs.Limits.{GRANT, TRANSFER, OPEN, CLAIM, SWEEP}
 use Rattle.rules.specs.Table.{rowsIn}
-use Rattle.rules.specs.Ledger.{Ledger, head, escrow, walletCount, escrowCount, receiptCount, walletRow, hasWallet, walletOf, written}
+use Rattle.rules.specs.Ledger.{Ledger, head, escrow, receipt, walletCount, escrowCount, receiptCount, walletRow, hasWallet, walletOf, written}
 use Rattle.rules.specs.Sound.{between}
-use Rattle.rules.specs.Refusals.{refusals, entryRefusals, envelopeRefusals, operationRefusals, oneOf, on, paying, closing, ofEscrow, releasable}
+use Rattle.rules.specs.Refusals.{refusals, entryRefusals, envelopeRefusals, operationRefusals, oneOf, on, paying, closing, replying, ofEscrow, releasable}
 use Rattle.rules.specs.Submit.{answerOf}
 use Rattle.rules.specs.declared.Submission.{Submission}
 use Rattle.rules.specs.declared.Read.{Read}
@@ -107,13 +108,28 @@ module _ (L : Ledger) (r : Read) (z : answerOf L r ≡ 0) where
   pub link-to : oneOf (CLAIM ∷ []) (s .op) ≡ true → s .link ≢ 0 → escrow L (s .link - 1) TO ≡ s .signer
   link-to t ne = eqb-true _ _ (not-false-true _ (or-none-snd (not (eqb (escrow L (s .link - 1) FROM) (s .target))) _ (parties-match t ne)))
 
-  -- 32
-  pub receipt-written : oneOf (ACCEPT ∷ DISPUTE ∷ []) (s .op) ≡ true → written (receiptCount L) (s .target) ≡ true
+  -- 31
+  pub link-deadline : oneOf (CLAIM ∷ []) (s .op) ≡ true → s .link ≢ 0 → s .until ≤ escrow L (s .link - 1) ESCROW-DEADLINE
   unfolding refusals entryRefusals envelopeRefusals operationRefusals
-  receipt-written t = not-false-true _ (for-op s (ACCEPT ∷ DISPUTE ∷ []) (not (written (receiptCount L) (s .target))) t (passed L r z 32))
+  link-deadline t ne =
+      ltb-false _ _ (there (written (escrowCount L) (s .link)) _ (link-written t ne)
+      (there (not (eqb (s .link) 0)) _ (ap not (ne-eqb (s .link) 0 ne)) (for-op s (CLAIM ∷ []) _ t (passed L r z 31))))
 
-  pub receipt-row : oneOf (ACCEPT ∷ DISPUTE ∷ []) (s .op) ≡ true → s .target - 1 < receiptCount L
+  -- 32, 34, 41
+  pub receipt-written : oneOf replying (s .op) ≡ true → written (receiptCount L) (s .target) ≡ true
+  unfolding refusals entryRefusals envelopeRefusals operationRefusals
+  receipt-written t = not-false-true _ (for-op s replying (not (written (receiptCount L) (s .target))) t (passed L r z 32))
+
+  pub receipt-row : oneOf replying (s .op) ≡ true → s .target - 1 < receiptCount L
   receipt-row t = written-row (receiptCount L) (s .target) (receipt-written t)
+
+  pub receipt-pending : oneOf replying (s .op) ≡ true → eqb (receipt L (s .target - 1) RECEIPT-STATE) PENDING ≡ true
+  unfolding refusals entryRefusals envelopeRefusals operationRefusals
+  receipt-pending t = not-false-true _ (there (written (receiptCount L) (s .target)) _ (receipt-written t) (for-op s replying _ t (passed L r z 34)))
+
+  pub reply-in-time : oneOf replying (s .op) ≡ true → s .now ≤ receipt L (s .target - 1) ACCEPTANCE-DEADLINE
+  unfolding refusals entryRefusals envelopeRefusals operationRefusals
+  reply-in-time t = ltb-false _ _ (there (written (receiptCount L) (s .target)) _ (receipt-written t) (for-op s replying _ t (passed L r z 41)))
 
   -- 36
   pub grant-within : oneOf (GRANT ∷ []) (s .op) ≡ true → head L GRANTED + s .amount ≤ MAX-GRANTED-MICRO

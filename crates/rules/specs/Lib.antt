@@ -20,6 +20,7 @@ pub mod Same
 pub mod Agreement
 pub mod Month
 pub mod Cap
+pub mod Window
 pub mod Results
 pub mod Runs
 pub mod Trials
