@@ -37,6 +37,7 @@
 #![warn(missing_docs)]
 
 mod answer;
+mod claim;
 mod entry;
 mod envelope;
 pub mod ffi;
@@ -55,6 +56,7 @@ mod submission;
 mod tables;
 
 pub use answer::{status, Answer, Refusal, ANSWERS};
+pub use claim::Claim;
 pub use entry::{Entries, Entry, Recorded, ENTRY_BYTES};
 pub use envelope::Envelope;
 pub use figure::{Cell, Figure, Named};
@@ -67,5 +69,5 @@ pub use recording::{CutShort, Recording};
 pub use replay::Replay;
 pub use report::{Added, Report};
 pub use rows::{EscrowRow, EscrowState, JournalRow, ReceiptRow, ReceiptState, WalletRow};
-pub use submission::{Claim, Freezable, Submission};
+pub use submission::{Freezable, Submission};
 pub use tables::{Sizes, Tables, HEADER_WORDS};
