@@ -1,4 +1,4 @@
-//! What the core answers: settled with a word, or one of forty refusals.
+//! What the core answers: settled with a word, or refused.
 
 use std::error::Error;
 use std::fmt;
@@ -9,7 +9,20 @@ macro_rules! refusals {
     ($($number:literal $variant:ident $name:literal $reason:literal;)*) => {
         /// Why a submission was refused. A refusal changes no table and uses up no nonce.
         ///
-        /// Of several refusals that apply, the core gives the one with the lowest number.
+        /// Of several refusals that apply, the core gives the first in the order of its checks,
+        /// which is that of [`Refusal::ALL`]. Refusals compare by their numbers, which is another
+        /// order: a later refusal gets the next number, and its check any place.
+        ///
+        /// ```
+        /// use milebeacon::Refusal;
+        ///
+        /// // a dispute after the window and without a reason is answered 41
+        /// let place = |refusal| Refusal::ALL.iter().position(|&checked| checked == refusal);
+        /// let (closed, reason) = (Refusal::AcceptanceClosed, Refusal::DisputeReasonRequired);
+        /// assert!(place(closed) < place(reason));
+        /// assert!(closed > reason);
+        /// assert_eq!((closed.number(), reason.number()), (41, 35));
+        /// ```
         #[non_exhaustive]
         #[derive(Clone, Copy, Debug, PartialEq, Eq, PartialOrd, Ord, Hash)]
         pub enum Refusal {
@@ -20,7 +33,8 @@ macro_rules! refusals {
         }
 
         impl Refusal {
-            /// Every refusal, in the order in which the core checks for them.
+            /// Every refusal, in the order in which the core checks for them. It is not the order
+            /// of their numbers.
             pub const ALL: &'static [Refusal] = &[$(Refusal::$variant),*];
 
             /// The refusal with this number.
@@ -48,6 +62,7 @@ macro_rules! refusals {
     };
 }
 
+// in the order of the checks
 refusals! {
     1 BadTable "bad_table" "a table's slice has a wrong length";
     2 LedgerDamaged "ledger_damaged" "the ledger is not sound";
@@ -83,6 +98,7 @@ refusals! {
     32 ReceiptNotFound "receipt_not_found" "there is no such receipt";
     33 ReceiptSignerNotAuthorized "receipt_signer_not_authorized" "the signer is not the receipt's requester";
     34 ReceiptNotPending "receipt_not_pending" "the receipt is closed";
+    41 AcceptanceClosed "acceptance_closed" "the receipt is past its acceptance deadline";
     35 DisputeReasonRequired "dispute_reason_required" "a dispute needs a reason";
     36 GrantLimit "grant_limit" "the granted total would pass its limit";
     37 WalletTableFull "wallet_table_full" "the wallet table has no room for the target";
@@ -92,7 +108,8 @@ refusals! {
 }
 
 /// How many answers there are, settled and each refusal: the columns of a
-/// [report](crate::Report)'s grid. A later refusal widens the grid by its line above.
+/// [report](crate::Report)'s grid. Every answer's number is below it. A later refusal widens the grid
+/// by its line above.
 pub const ANSWERS: usize = Refusal::ALL.len() + 1;
 
 // none has a number beyond them, whatever the order of the checks
@@ -105,7 +122,7 @@ const _: () = {
 };
 
 impl Refusal {
-    /// Its number in the rules, 1 to 40.
+    /// Its number in the rules, at least 1 and below [`ANSWERS`].
     pub fn number(self) -> u64 {
         self as u64
     }
@@ -148,8 +165,8 @@ pub enum Answer {
 }
 
 impl Answer {
-    /// The answer with this number and word. There is none for a number above 40, nor for a refusal
-    /// with a word other than 0.
+    /// The answer with this number and word. There is none for a number of [`ANSWERS`] or more, nor
+    /// for a refusal with a word other than 0.
     pub fn from_parts(number: u64, word: u64) -> Option<Answer> {
         match (number, word) {
             (0, word) => Some(Answer::Settled(word)),
@@ -160,8 +177,9 @@ impl Answer {
 
     /// What the core answers.
     pub(crate) fn from_core(answer: ffi::Answer) -> Answer {
-        Answer::from_parts(answer.number, answer.word)
-            .expect("the core answers 0 to 40, and a refusal with word 0: it is proved to")
+        Answer::from_parts(answer.number, answer.word).expect(
+            "the core gives an answer of the rules, and a refusal has word 0: it is proved to",
+        )
     }
 
     /// Its number in the rules: 0 if settled.
@@ -222,10 +240,10 @@ impl fmt::Display for Answer {
     }
 }
 
-/// The status of an answer's number, as of an HTTP reply; 500 for a number above 40.
+/// The status of an answer's number, as of an HTTP reply; 500 for a number that no answer has.
 ///
 /// ```
-/// assert_eq!([0, 11, 40, 41].map(milebeacon::status), [200, 409, 507, 500]);
+/// assert_eq!([0, 11, 41, 42].map(milebeacon::status), [200, 409, 409, 500]);
 /// ```
 pub fn status(number: u64) -> u64 {
     ffi::status(number)

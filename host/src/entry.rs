@@ -110,14 +110,15 @@ impl ExactSizeIterator for Entries<'_> {}
 /// ```
 #[derive(Clone, Copy, Debug, PartialEq, Eq, Hash)]
 pub struct Recorded {
-    /// The answer's number, of which the rules know 0 to 40.
+    /// The answer's number, of which the rules know those below [`ANSWERS`](crate::ANSWERS).
     pub number: u8,
     /// The answer word.
     pub word: u64,
 }
 
 impl Recorded {
-    /// The answer that it is; none for a number above 40, or a refusal with a word other than 0.
+    /// The answer that it is; none for a number that no answer has, or a refusal with a word other
+    /// than 0.
     pub fn answer(self) -> Option<Answer> {
         Answer::from_parts(self.number.into(), self.word)
     }

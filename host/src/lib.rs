@@ -3,7 +3,7 @@
 //! The core is written and proved in Rattle and linked as a static archive. It settles
 //! *submissions* (grants, transfers, escrows, work receipts) on a *ledger* of five tables of 64-bit
 //! words, which the host owns and lends to each call. Each call either settles a submission or
-//! refuses it with one of forty numbered [refusals](Refusal) and changes nothing.
+//! refuses it with one of the numbered [refusals](Refusal) and changes nothing.
 //!
 //! Amounts are micro-credits and times are milliseconds. The core has no clock, checks no
 //! signatures and keeps nothing between calls: the host says what time it is, whether a signature

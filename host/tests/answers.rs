@@ -5,8 +5,8 @@ use std::error::Error;
 
 use milebeacon::{status, Answer, Operation, Refusal};
 
-/// The names of the rules, 1 to 40.
-const NAMES: [&str; 40] = [
+/// The names of the rules, 1 to 41.
+const NAMES: [&str; 41] = [
     "bad_table",
     "ledger_damaged",
     "malformed_record",
@@ -47,31 +47,48 @@ const NAMES: [&str; 40] = [
     "escrow_table_full",
     "receipt_table_full",
     "journal_table_full",
+    "acceptance_closed",
 ];
 
-/// The statuses of the rules, 0 to 40.
-const STATUSES: [u64; 41] = [
+/// The statuses of the rules, 0 to 41.
+const STATUSES: [u64; 42] = [
     200, 500, 500, 400, 409, 503, 400, 403, 400, 400, 400, 409, 400, 404, 403, 400, 404, 402, 400,
     429, 400, 400, 404, 404, 400, 400, 400, 404, 403, 409, 400, 400, 404, 403, 409, 400, 409, 507,
-    507, 507, 507,
+    507, 507, 507, 409,
 ];
 
 #[test]
 fn refusals_have_the_names_and_numbers_of_the_rules() {
-    let names: Vec<&str> = Refusal::ALL.iter().map(|refusal| refusal.name()).collect();
-    assert_eq!(names, NAMES);
-    for (number, &refusal) in (1..).zip(Refusal::ALL) {
-        assert_eq!(refusal.number(), number);
-        assert_eq!(Refusal::from_number(number), Some(refusal));
+    for (number, name) in (1..).zip(NAMES) {
+        let refusal = Refusal::from_number(number).expect(name);
+        assert_eq!((refusal.number(), refusal.name()), (number, name));
         assert_eq!(
             Answer::from_parts(number, 0),
             Some(Answer::Refused(refusal))
         );
         assert_eq!(Answer::from_parts(number, 1), None, "a refusal has word 0");
     }
-    for number in [0, 41, 255, u64::MAX] {
+    for number in [0, 42, 255, u64::MAX] {
         assert_eq!(Refusal::from_number(number), None);
     }
+}
+
+#[test]
+fn refusals_are_listed_in_the_order_of_the_checks() {
+    let numbers: Vec<u64> = Refusal::ALL
+        .iter()
+        .map(|refusal| refusal.number())
+        .collect();
+    let checks: Vec<u64> = (1..=34).chain([41]).chain(35..=40).collect();
+    assert_eq!(numbers, checks);
+}
+
+#[test]
+fn refusals_compare_by_their_numbers() {
+    let mut sorted = Refusal::ALL.to_vec();
+    sorted.sort();
+    let numbers: Vec<u64> = sorted.iter().map(|refusal| refusal.number()).collect();
+    assert_eq!(numbers, (1..=41).collect::<Vec<_>>());
 }
 
 #[test]
@@ -81,7 +98,7 @@ fn statuses_are_those_of_the_rules() {
         let answer = Answer::from_parts(number, 0).expect("an answer");
         assert_eq!(answer.status(), expected);
     }
-    assert_eq!([41, 1_000, u64::MAX].map(status), [500; 3]);
+    assert_eq!([42, 1_000, u64::MAX].map(status), [500; 3]);
 }
 
 #[test]
@@ -96,7 +113,7 @@ fn refusals_are_errors_that_speak_for_themselves() {
         "clock_back: now is before the ledger's last clock"
     );
     let said: BTreeSet<String> = Refusal::ALL.iter().map(ToString::to_string).collect();
-    assert_eq!(said.len(), 40, "no two say the same");
+    assert_eq!(said.len(), 41, "no two say the same");
 }
 
 #[test]

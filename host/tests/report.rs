@@ -62,8 +62,8 @@ fn every_cell_has_its_place_and_its_name() {
         .collect();
     let expected = (0..GRID_ROWS).flat_map(|row| (0..ANSWERS).map(move |column| (row, column)));
     assert_eq!(places, expected.collect::<Vec<_>>());
-    let last = Cell::refused(Operation::Caps, Refusal::JournalTableFull);
-    assert_eq!(last.to_string(), "caps: 40 journal_table_full");
+    let last = Cell::refused(Operation::Caps, Refusal::AcceptanceClosed);
+    assert_eq!(last.to_string(), "caps: 41 acceptance_closed");
     assert_eq!(Cell::all().last(), Some(last));
     assert_eq!(
         (1..).zip(Figure::CREDITS).find(|(n, f)| f.number() != *n),
