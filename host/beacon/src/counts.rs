@@ -2,7 +2,7 @@
 
 use std::slice;
 
-use milebeacon::{Answer, Cell, Figure, Operation, Refusal, Report};
+use milebeacon::{Answer, Cell, Figure, Operation, Refusal, Report, ANSWERS};
 
 use crate::show::{credits, grouped, table_of_words};
 
@@ -29,8 +29,8 @@ pub fn lines(report: &Report, told: &Told) -> String {
 
 /// Every count: a line for each answer and a column for each operation, and the sums of both.
 pub fn grid(report: &Report, told: &Told) -> String {
-    let operations = none_and(Operation::ALL);
-    let refusals = none_and(Refusal::ALL);
+    let operations = operations();
+    let refusals = refusals();
     let mut rows: Vec<Vec<String>> = refusals
         .iter()
         .map(|refusal| {
@@ -49,10 +49,16 @@ pub fn grid(report: &Report, told: &Told) -> String {
     framed(report, told, &table_of_words("counts", 1, &names, &rows))
 }
 
-/// None of them, and each.
-fn none_and<T: Copy>(all: &[T]) -> Vec<Option<T>> {
-    let each = all.iter().copied().map(Some);
+/// No operation, and each.
+fn operations() -> Vec<Option<Operation>> {
+    let each = Operation::ALL.iter().copied().map(Some);
     [None].into_iter().chain(each).collect()
+}
+
+/// No refusal, and each by its number, as everywhere in a report: they are listed in the order of
+/// the checks, in which nobody would look for one.
+fn refusals() -> Vec<Option<Refusal>> {
+    (0..ANSWERS as u64).map(Refusal::from_number).collect()
 }
 
 /// A row of the grid: its name, for each operation how many of these answers there are, and the sum.

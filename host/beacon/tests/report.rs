@@ -109,21 +109,23 @@ fn the_grid_has_every_operation_and_answer() {
                       freeze caps entries";
     let names: Vec<String> = words(lines[3]);
     assert_eq!(names.join(" "), format!("answer {operations}"));
-    let counts: [(usize, &str, &str); 5] = [
+    let counts: [(usize, &str, &str); 7] = [
         (0, "settled", "- 1 2 3 1 1 - - - 1 - - 9"),
         (1, "bad_table", "- - - - - - - - - - - - -"),
         (11, "nonce_seen", "- - - 1 - - - - - - - - 1"),
         (12, "amount_out_of_range", "- - 1 - - - - - - - - - 1"),
+        (35, "dispute_reason_required", "- - - - - - - - - - - - -"),
         (40, "journal_table_full", "- - - - - - - - - - - - -"),
+        (41, "acceptance_closed", "- - - - - - - - - - - - -"),
     ];
     for (number, name, row) in counts {
         let found: Vec<String> = words(lines[4 + number]);
         assert_eq!(found.join(" "), format!("{number} {name} {row}"));
     }
-    let sums: Vec<String> = words(lines[45]);
+    let sums: Vec<String> = words(lines[46]);
     assert_eq!(sums.join(" "), "entries - 1 3 4 1 1 - - - 1 - - 11");
     // every line as wide as the first, and the rest as ever
-    assert!(lines[3..46].iter().all(|line| line.len() == lines[3].len()));
+    assert!(lines[3..47].iter().all(|line| line.len() == lines[3].len()));
     let rest = BUSY.split_once("\ncredits\n").expect("both parts").1;
     assert!(text(&shown).ends_with(rest), "{}", text(&shown));
 }
