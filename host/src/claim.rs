@@ -10,7 +10,7 @@ use crate::submission::{enveloped, Submission};
 pub struct Claim {
     /// The wallet for which the work was done.
     pub requester: u64,
-    /// The last moment of the time for acceptance.
+    /// The last moment at which the requester can accept or dispute the receipt.
     pub until: u64,
     /// The escrow that acceptance releases.
     pub escrow: Option<EscrowNumber>,
@@ -36,7 +36,8 @@ impl Submission {
         submission
     }
 
-    /// Accepts a receipt; the signer is its requester.
+    /// Accepts a receipt; the signer is its requester. It is refused after the receipt's acceptance
+    /// deadline, as a [dispute](Submission::dispute) is.
     pub fn accept(envelope: Envelope, receipt: ReceiptNumber) -> Submission {
         Submission {
             target: receipt.0,
@@ -45,6 +46,41 @@ impl Submission {
     }
 
     /// Disputes a receipt, for a reason that the host has been given; the signer is its requester.
+    ///
+    /// The receipt's acceptance deadline is the last moment for a reply. A later one is refused, also
+    /// while the receipt is still pending because no sweep has come: that closes it.
+    ///
+    /// ```
+    /// # use milebeacon::{Answer, Claim, Envelope, Ledger, ReceiptNumber, ReceiptState, Refusal};
+    /// # use milebeacon::{Sizes, Submission};
+    /// # let mut ledger = Ledger::new(Sizes::PROGRAM)?;
+    /// # let now = 1_700_000_000_000;
+    /// # for (nonce, wallet) in [(1, 7), (2, 8)] {
+    /// #     let admin = Envelope::new(now, 1, nonce).by_admin();
+    /// #     ledger.settle(&Submission::grant(admin, wallet, 500)).settled()?;
+    /// # }
+    /// let deadline = now + 3_600_000;
+    /// let work = Claim {
+    ///     requester: 7,
+    ///     until: deadline,
+    ///     escrow: None,
+    ///     hash: [3; 32],
+    ///     auto_accept: false,
+    /// };
+    /// let claim = Submission::claim(Envelope::new(now, 8, 1), work);
+    /// let receipt = ReceiptNumber(ledger.settle(&claim).settled()?);
+    /// let dispute = |now| Submission::dispute(Envelope::new(now, 7, 1), receipt, true);
+    ///
+    /// let mut in_time = ledger.clone();
+    /// assert_eq!(in_time.settle(&dispute(deadline)), Answer::Settled(0));
+    ///
+    /// let late = ledger.settle(&dispute(deadline + 1));
+    /// assert_eq!(late, Answer::Refused(Refusal::AcceptanceClosed));
+    /// ledger.settle(&Submission::sweep(deadline + 1, 10)).settled()?;
+    /// let state = ledger.receipt(receipt).and_then(|row| row.state());
+    /// assert_eq!(state, Some(ReceiptState::Expired));
+    /// # Ok::<(), Refusal>(())
+    /// ```
     pub fn dispute(envelope: Envelope, receipt: ReceiptNumber, reason_given: bool) -> Submission {
         let mut submission = Submission {
             target: receipt.0,

@@ -94,7 +94,7 @@ row! {
     requester = 1;
     /// The escrow that acceptance releases, or 0.
     link = 2;
-    /// The last moment of the time for acceptance.
+    /// The last moment at which it can be accepted or disputed.
     acceptance_deadline = 3;
     /// 1 if a sweep after the deadline accepts it, 0 if it lets it expire.
     auto_accept_word = 4;
@@ -179,10 +179,10 @@ state! {
 state! {
     /// The state of a receipt.
     ReceiptState,
-    1 Pending "pending" "Waiting for the requester.";
+    1 Pending "pending" "Waiting for the requester, and after its deadline for a sweep.";
     2 Accepted "accepted" "Accepted, by the requester or by a sweep.";
     3 Disputed "disputed" "Disputed by the requester.";
-    4 Expired "expired" "A sweep came before the requester.";
+    4 Expired "expired" "The requester did not reply in time, and a sweep closed it.";
 }
 
 impl WalletRow<'_> {
@@ -208,6 +208,12 @@ impl<'a> ReceiptRow<'a> {
     /// The receipt's state; none if the word is no state.
     pub fn state(&self) -> Option<ReceiptState> {
         ReceiptState::from_number(self.state_word())
+    }
+
+    /// Whether its acceptance deadline has passed at `now`: then it can no longer be accepted or
+    /// disputed, and if it is pending a sweep closes it.
+    pub fn is_stale(&self, now: u64) -> bool {
+        self.acceptance_deadline() < now
     }
 
     /// The escrow that acceptance releases.
