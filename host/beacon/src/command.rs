@@ -144,6 +144,12 @@ pub fn parse_number(text: &str) -> Result<u64, String> {
     }
 }
 
+/// Until when a receipt can be accepted or disputed, and what becomes of it then.
+const REPLY_WINDOW: &str = "\
+The last moment for a reply is the receipt's acceptance deadline. A later one is
+answered 41 acceptance_closed, also if no sweep has come yet. The sweep accepts a
+receipt that was claimed with --auto-accept, and any other expires.";
+
 /// The options of one operation: what its record uses, and nothing else.
 fn operation_command(operation: Operation) -> Command {
     let mut command = Command::new(operation.name())
@@ -192,7 +198,7 @@ fn operation_command(operation: Operation) -> Command {
             .arg(number("target", "The requester's wallet"))
             .arg(maybe(
                 "until",
-                "The acceptance deadline [default: an hour after issue]",
+                "The acceptance deadline, the last moment for a reply [default: an hour after issue]",
             ))
             .arg(maybe(
                 "link",
@@ -205,10 +211,13 @@ fn operation_command(operation: Operation) -> Command {
                     .help("The hash of the work, 64 hex digits [default: zeros]"),
             )
             .arg(flag("auto-accept", "Accept it when its time is over")),
-        Operation::Accept => command.arg(number("target", "The receipt's number")),
+        Operation::Accept => command
+            .arg(number("target", "The receipt's number"))
+            .after_help(REPLY_WINDOW),
         Operation::Dispute => command
             .arg(number("target", "The receipt's number"))
-            .arg(flag("reason", "A reason was given")),
+            .arg(flag("reason", "A reason was given"))
+            .after_help(REPLY_WINDOW),
         Operation::Sweep => {
             command.arg(number("amount", "The most rows to close, 1 to 1000").alias("limit"))
         }
