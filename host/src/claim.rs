@@ -48,7 +48,7 @@ impl Submission {
     /// Disputes a receipt, for a reason that the host has been given; the signer is its requester.
     ///
     /// The receipt's acceptance deadline is the last moment for a reply. A later one is refused, also
-    /// while the receipt is still pending because no sweep has come: that closes it.
+    /// if no sweep has closed the receipt yet. Only a sweep does then.
     ///
     /// ```
     /// # use milebeacon::{Answer, Claim, Envelope, Ledger, ReceiptNumber, ReceiptState, Refusal};
