@@ -38,7 +38,8 @@ const MOST_GRANTED: u64 = 1_000_000_000_000_000_000;
 
 /// "The answer is the lowest number whose condition holds; if none holds, 0.
 /// An answer is a number and a word; a refusal's word is 0 and no lent word
-/// or byte changes."
+/// or byte changes." Since request 5/13 it is not the lowest number but the
+/// first: "Demand 2's order is now that of the table's rows".
 pub fn submit(tables: &mut Tables<'_>, record: &[u8]) -> (u64, u64) {
     // 1, bad_table: "a table's slice has a wrong length".
     if !tables::lengths_right(tables) {
@@ -54,7 +55,7 @@ pub fn submit(tables: &mut Tables<'_>, record: &[u8]) -> (u64, u64) {
         Some(well_formed) => well_formed,
         None => return (3, 0),
     };
-    // 4 to 40.
+    // The rows from 4 on.
     if let Some(number) = refusals::refusal(&ledger, operation, &submission) {
         return (number, 0);
     }

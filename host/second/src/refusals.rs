@@ -28,8 +28,10 @@ struct Case<'a> {
 
 type Condition = fn(&Case<'_>) -> bool;
 
-/// The table's rows in the table's order.
-const CONDITIONS: [(u64, Condition); 37] = [
+/// The table's rows in the table's order, which since request 5/13 is the order
+/// of the answers: "Demand 2's order is now that of the table's rows, not of
+/// the numbers."
+const CONDITIONS: [(u64, Condition); 38] = [
     // clock_back: now < last clock
     (4, |c| c.s.now < c.ledger.clock),
     // system_frozen: set (1–9)
@@ -119,6 +121,10 @@ const CONDITIONS: [(u64, Condition); 37] = [
     (34, |c| {
         c.of_receipt(|receipt| receipt.state != ReceiptState::Pending)
     }),
+    // acceptance_closed, of request 5/13: "Accept and dispute are now refused when the receipt's
+    // acceptance deadline < now. The new answer 41 ... stands between 34 and 35, so a closed
+    // receipt still answers 34." (7, 8)
+    (41, |c| c.of_receipt(|receipt| receipt.deadline < c.s.now)),
     // dispute_reason_required: bit 3 clear (8)
     (35, |c| c.is(&[Dispute]) && !c.s.has(REASON)),
     // grant_limit: granted total + amount > 10^18 (1)
@@ -195,7 +201,9 @@ fn counted_amounts(c: &Case<'_>) -> u128 {
         .sum()
 }
 
-/// "The answer is the lowest number whose condition holds"; none if none does.
+/// "The answer is the lowest number whose condition holds", as changed by
+/// request 5/13: the number of the first of the table's rows whose condition
+/// holds, from the top; none if none does.
 pub fn refusal(ledger: &Ledger, op: Operation, s: &Submission) -> Option<u64> {
     let case = Case {
         ledger,

@@ -9,7 +9,8 @@ use crate::tables::{decode, fresh, lengths_right, Tables};
 /// "one row for every operation and a row 0": operations 1 to 11.
 pub const GRID_ROWS: usize = 12;
 
-/// "one column per answer": answers 0 to 40.
+/// "one column per answer": answers 0 to 40, and 41 since request 5/13.
+/// "Later operations and answers widen the grid."
 pub const GRID_COLUMNS: usize = ANSWERS;
 
 /// "a grid of counts by operation and answer": `grid[operation][answer]`.

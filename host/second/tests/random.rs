@@ -116,6 +116,12 @@ fn one_run(seed: u64, answers: &mut BTreeSet<u64>) {
         let before = w.clone();
         let (answer, word) = w.send(&s);
         answers.insert(answer);
+        if matches!(s.op, 7 | 8) && matches!(answer, 0 | 41) {
+            // Both are pending; the one that settles is in time, the other is not.
+            let receipt = before.receipt(s.target as usize);
+            assert_eq!(receipt[5], 1);
+            assert_eq!(receipt[3] < s.now, answer == 41);
+        }
         if answer != 0 {
             assert_eq!(word, 0);
             assert!(w == before);
@@ -165,7 +171,9 @@ fn random_runs() {
     ] {
         assert!(answers.contains(&number), "{} in {:?}", number, answers);
     }
-    for number in [19, 22, 23, 28, 29, 30, 31, 32, 33, 34, 35, 37, 38, 39, 40] {
+    for number in [
+        19, 22, 23, 28, 29, 30, 31, 32, 33, 34, 35, 37, 38, 39, 40, 41,
+    ] {
         assert!(answers.contains(&number), "{} in {:?}", number, answers);
     }
 }

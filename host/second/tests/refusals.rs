@@ -1,4 +1,4 @@
-//! Each number from 1 to 40 is reached, with word 0 and unchanged tables.
+//! Each number from 1 to 41 is reached, with word 0 and unchanged tables.
 
 mod common;
 use common::*;
@@ -197,6 +197,10 @@ fn closings() {
         ..close(8, NOW, 7, 9, 1)
     };
     w.refuses(no_reason, 35);
+    // 41 has tests of its own, and so has its place.
+    for op in [7, 8] {
+        w.refuses(close(op, NOW + 400_001, 7, 9, 1), 41);
+    }
     w.settles(close(7, NOW, 7, 9, 1));
     for op in [7, 8] {
         w.refuses(close(op, NOW, 8, 10, 1), 33);

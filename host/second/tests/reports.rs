@@ -144,7 +144,8 @@ fn grid_of_the_story() -> Grid {
 
 #[test]
 fn a_report_over_nothing_is_all_zeros() {
-    assert_eq!((GRID_ROWS, GRID_COLUMNS), (12, 41));
+    // 41 columns before request 5/13
+    assert_eq!((GRID_ROWS, GRID_COLUMNS), (12, 42));
     let report = Report::default();
     assert_eq!(report.grid, grid(&[]));
     assert_eq!(five(&report), [0; 5]);
@@ -219,7 +220,7 @@ fn refusals_have_their_columns_and_move_no_credits() {
 }
 
 #[test]
-fn the_last_column_is_answer_40() {
+fn a_full_journal_is_column_40() {
     let mut report = Report::default();
     let mut world = World::new(2, 1, 1, 1);
     let full = recording(&[grant(NOW, 1, 7, 5), grant(NOW, 2, 7, 5), sweep(NOW, 1)]);
@@ -263,7 +264,7 @@ fn a_malformed_record_is_counted_by_its_operation_byte() {
 #[test]
 fn the_recorded_answers_are_not_looked_at() {
     let right = over(&[recording(&story())]);
-    for (number, word) in [(1, 0), (3, 0), (40, 1), (41, 7), (255, u64::MAX)] {
+    for (number, word) in [(1, 0), (3, 0), (40, 1), (41, 7), (42, 7), (255, u64::MAX)] {
         let other: Vec<u8> = story()
             .iter()
             .flat_map(|submission| entry(&bytes(submission), number, word))
@@ -396,10 +397,17 @@ fn a_release_that_is_impossible_is_not_counted() {
     ];
     settled(&entries);
     assert_eq!(five(&over(&[recording(&entries)])), [50_000, 0, 30, 0, 0]);
-    // an accept when the escrow is stale, which a sweep then ends
+    // an accept when the escrow is refunded
     entries.truncate(3);
-    entries.extend([close(7, LATE, 7, 2, 1), sweep(LATE, 1)]);
+    entries.extend([close(5, NOW, 7, 2, 1), close(7, NOW, 7, 3, 1)]);
     settled(&entries);
+    assert_eq!(five(&over(&[recording(&entries)])), [50_000, 0, 0, 30, 0]);
+    // a sweep's accept when the escrow is stale, which a second sweep then ends; the accept of
+    // operation 7 comes too late for that since request 5/13
+    entries.truncate(2);
+    entries.push(auto(claim(NOW, 8, 1, 7, WINDOW, 1)));
+    entries.extend([sweep(LATE, 1), sweep(LATE, 1)]);
+    assert_eq!(settled(&entries).receipt(1)[9], 29);
     assert_eq!(five(&over(&[recording(&entries)])), [50_000, 0, 0, 0, 30]);
     // a receipt without an escrow
     let entries = [
@@ -679,13 +687,14 @@ fn a_full_figure_that_does_not_rise_stops_nothing() {
     left.grid[9][0] = 1;
     assert_eq!(report, left);
     // "never wrap": the cells together may pass 2^64 − 1
-    assert_eq!(sum(&report), 489 * u128::from(u64::MAX) + 3);
+    // 12 rows of 42 cells, less three
+    assert_eq!(sum(&report), 501 * u128::from(u64::MAX) + 3);
 }
 
 #[test]
 fn a_report_that_has_stopped_counts_nothing_more() {
     let entries = recording(&story());
-    let (operation, answer) = (11, 40);
+    let (operation, answer) = (11, 41);
     let cell = Figure::Cell { operation, answer };
     for named in ORDER.into_iter().chain([cell]) {
         let mut report = Report {
