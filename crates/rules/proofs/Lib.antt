@@ -35,6 +35,7 @@ pub mod Cap
 pub mod Turns
 pub mod SweepPlan
 pub mod Passed
+pub mod Late
 pub mod GoodRows
 pub mod SoundStays
 pub mod SoundParts

@@ -24,7 +24,7 @@ use Rattle.rules.proofs.Refused.{passed}
 use Rattle.rules.proofs.Calls.{for-op}
 
 -- a condition that says that its row is there, where it is
-there : (a x : Bool) → a ≡ true → a && x ≡ false → x ≡ false
+pub there : (a x : Bool) → a ≡ true → a && x ≡ false → x ≡ false
 there a x t h = subst (λ (b : Bool). b && x ≡ false) t h
 
 -- a number that names one of n written rows is the number after one of them

@@ -9,14 +9,14 @@ use mathlib.Core.Bool.{Bool, true, false, not, cond, _&&_, _||_}
 use Prim.Native.Nat.{ℕ, _≤_, _<_}
 use native.Mathlib.Omega.{arith}
 use lib.Dec.{eqb, ltb, leb}
-use borrow.Author.Tests.{ltb-true, leb-true, eq-eqb}
+use borrow.Author.Tests.{ltb-true, leb-true, eq-eqb, eqb-false}
 use Rattle.rules.specs.Limits.{LAST-ANSWER}
 use Rattle.rules.specs.Ledger.{Ledger}
 use Rattle.rules.specs.Refusals.{Refusal, row, first, refusals, entryRefusals, envelopeRefusals, operationRefusals}
 use Rattle.rules.specs.Submit.{answerOf}
 use Rattle.rules.specs.Promises.{none, IsFirst}
 use Rattle.rules.specs.declared.Read.{Read}
-use Rattle.rules.proofs.Bools.{and-intro, and-fst, and-snd, or-fst, or-snd, not-true-false, cond-case}
+use Rattle.rules.proofs.Bools.{and-intro, and-fst, and-snd, or-fst, or-snd, or-other, not-true-false, cond-case}
 
 -- whether the row of number n holds
 abbrev pub holdsOf : List Refusal → ℕ → Bool
@@ -120,6 +120,23 @@ first-holds (r ∷ rs) n ne e = go (r .holds) refl (first-holds rs n ne)
     go : (b : Bool) → r .holds ≡ b → (first rs ≡ n → anyOf rs n ≡ true) → anyOf (r ∷ rs) n ≡ true
     go true x ih = or-fst (eqb (r .number) n && r .holds) (anyOf rs n) (and-intro (eqb (r .number) n) (r .holds) (eq-eqb (r .number) n (sym (first-here r rs x) ∙ e)) x)
     go false x ih = or-snd (eqb (r .number) n && r .holds) (anyOf rs n) (ih (sym (first-past r rs x) ∙ e))
+
+-- the row of number m stands before that of number n
+abbrev pub stands : List Refusal → ℕ → ℕ → Bool
+stands [] m n = false
+stands (r ∷ rs) m n = not (eqb (r .number) n) && (eqb (r .number) m || stands rs m n)
+
+-- a row that stands before that of the answer does not hold
+pub first-passed : (rs : List Refusal) (m n : ℕ) → n ≢ 0 → first rs ≡ n → stands rs m n ≡ true → holdsOf rs m ≡ false
+first-passed [] m n ne e before = refl
+first-passed (r ∷ rs) m n ne e before = go (r .holds) refl (first-passed rs m n ne)
+  where
+    go : (b : Bool) → r .holds ≡ b → (first rs ≡ n → stands rs m n ≡ true → holdsOf rs m ≡ false) → holdsOf (r ∷ rs) m ≡ false
+    go true x ih =
+        absurd (eqb-false (r .number) n (not-true-false _ (and-fst (not (eqb (r .number) n)) _ before)) (sym (first-here r rs x) ∙ e))
+    go false x ih =
+        cond-case (λ (b : Bool). b ≡ false) (eqb (r .number) m) (r .holds) (holdsOf rs m) (λ _. x)
+        (λ other. ih (sym (first-past r rs x) ∙ e) (or-other (eqb (r .number) m) (stands rs m n) other (and-snd (not (eqb (r .number) n)) _ before)))
 
 -- ---- THE TABLE
 

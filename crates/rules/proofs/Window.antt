@@ -1,6 +1,6 @@
--- NO OBJECTION AFTER THE WINDOW. A reply that settles has passed check 41, so a late one is refused. And in the book a claim's deadline is not after
--- its escrow's (`Timed`): a claim passes check 31, an open names an escrow that no claim was linked to, and nothing else moves either. Tables and book
--- agree, so an accept finds its escrow open or closed, and never stale.
+-- AN ACCEPT NEVER MEETS A STALE ESCROW. In the book a claim's deadline is not after its escrow's (`Timed`): a claim passes check 31, an open names an
+-- escrow that no claim was linked to, and nothing else moves either. Tables and book agree, and a reply passes check 41; so an accept finds its escrow
+-- open or closed.
 use mathlib.Core.Path.{_≡_, refl, sym, ap, ap₂, _∙_, subst}
 use mathlib.Core.Logic.{_≢_}
 use mathlib.Core.List.{List, [], _∷_}
@@ -21,7 +21,7 @@ use Rattle.rules.specs.Submit.{answerOf, submit}
 use Rattle.rules.specs.History.{Call, Said, saidOf, begun, after, said, Deal, Note, Book, blank, ends, closes, tries, Sweeping, sweepNote, sweepDeal, sweeps}
 use Rattle.rules.specs.History.{grants, transfers, opens-escrow, releases, refunds, makes-claim, accepts, disputes, sweeps-due, says-nothing, sayings, enters, hears, bookOf}
 use Rattle.rules.specs.Promises.{Lent, started}
-use Rattle.rules.specs.Window.{Late-replies-refused, linkedToOpen, linkedToClosed, Accepted-in-time, Accepts-in-time}
+use Rattle.rules.specs.Window.{linkedToOpen, linkedToClosed, Accepted-in-time, Accepts-in-time}
 use Rattle.rules.specs.declared.Submission.{Submission}
 use Rattle.rules.specs.declared.Read.{Read}
 use Rattle.rules.proofs.Bools.{cond-case}
@@ -31,19 +31,12 @@ use Rattle.rules.proofs.Formed.{Formed, formed-says, read-formed}
 use Rattle.rules.proofs.Calls.{by-answer, by-left, number-is, settled, by-op}
 use Rattle.rules.proofs.Passed.{link-written, written-row, link-deadline, receipt-row, receipt-pending, reply-in-time}
 use Rattle.rules.proofs.Tests.{written-high}
-use Rattle.rules.proofs.Demand12.{refusal-changes-nothing, fresh-zero}
+use Rattle.rules.proofs.Demand12.{fresh-zero}
 use Rattle.rules.proofs.Lengths.{lent-started}
 use Rattle.rules.proofs.SoundAlways.{rows-stay-within}
 use Rattle.rules.proofs.Stays.{loop-keeps}
 use Rattle.rules.proofs.Agree.{Fits, at-cases}
 use Rattle.rules.proofs.Books.{fits-fresh, fits-begun, fits-call, along}
-
--- ---- a late reply
-
-pub late-replies-refused : Late-replies-refused
-late-replies-refused L b reply late =
-    refusal-changes-nothing L b
-    (λ e. let early = reply-in-time L (readOf b) (sym (number-is L b) ∙ e) reply in omega (arith, early, late))
 
 -- ---- the book: a claim's deadline is not after its escrow's
 

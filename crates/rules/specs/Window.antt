@@ -5,19 +5,33 @@ use mathlib.Core.List.{List}
 use mathlib.Core.Bool.{Bool, true, cond, not, _&&_}
 use Prim.Native.Nat.{ℕ, _-_, _≤_, _<_}
 use lib.Dec.{eqb}
-use Rattle.rules.specs.Limits.{ACCEPT, ESCROW-DEADLINE, ESCROW-STATE, IS-OPEN, RECEIPT-LINK, ACCEPTANCE-DEADLINE, RELEASE-CODE, RELEASE-IMPOSSIBLE}
-use Rattle.rules.specs.Ledger.{Ledger, escrow, receipt}
+use Rattle.rules.specs.Limits.{ACCEPT, ESCROW-DEADLINE, ESCROW-STATE, IS-OPEN, RELEASE-IMPOSSIBLE}
+use Rattle.rules.specs.Limits.{REQUESTER, RECEIPT-LINK, ACCEPTANCE-DEADLINE, RECEIPT-STATE, RELEASE-CODE, PENDING}
+use Rattle.rules.specs.Ledger.{Ledger, escrow, receipt, receiptCount, written}
 use Rattle.rules.specs.Record.{readOf}
 use Rattle.rules.specs.Refusals.{oneOf, replying}
 use Rattle.rules.specs.Submit.{submit}
 use Rattle.rules.specs.History.{Call, after}
 use Rattle.rules.specs.Promises.{Lent, started, Refused}
+use Rattle.rules.specs.declared.Submission.{Submission}
 
 -- "ACCEPT AND DISPUTE ARE NOW REFUSED WHEN THE RECEIPT'S ACCEPTANCE DEADLINE < NOW": on any ledger, and a refusal changes nothing
 abbrev pub Late-replies-refused : Type 0
 Late-replies-refused =
     (L : Ledger) (b : List ℕ) → oneOf replying (readOf b .submission .op) ≡ true →
     receipt L (readOf b .submission .target - 1) ACCEPTANCE-DEADLINE < readOf b .submission .now → Refused L b
+
+-- a reply to a receipt that is there, by its requester and while it is pending, but after its deadline
+pub record Late (L : Ledger) (s : Submission) : Type 0 where
+  pub reply : oneOf replying (s .op) ≡ true
+  pub there : written (receiptCount L) (s .target) ≡ true
+  pub own : receipt L (s .target - 1) REQUESTER ≡ s .signer
+  pub pending : receipt L (s .target - 1) RECEIPT-STATE ≡ PENDING
+  pub late : receipt L (s .target - 1) ACCEPTANCE-DEADLINE < s .now
+
+-- "41 STANDS BETWEEN 34 AND 35, SO A CLOSED RECEIPT STILL ANSWERS 34": whatever is answered 41 is such a reply, and no other
+abbrev pub Late-only : Type 0
+Late-only = (L : Ledger) (b : List ℕ) → submit L b .number ≡ 41 → Late L (readOf b .submission)
 
 -- the receipt in row i is linked to an escrow, and that is open; it is linked to one, and that is closed
 abbrev pub linkedToOpen : Ledger → ℕ → Bool
