@@ -1,4 +1,3 @@
 -- Laws that the calls rest on.
 pub mod Starts
-pub mod Parts
 pub mod Submits

@@ -21,8 +21,6 @@ use rules::limits::MAX_WALLETS;
 use rules::limits::RECEIPT_LEN;
 use rules::limits::WALLET_LEN;
 
-pub mod lookups;
-
 // Whether all five slices have right lengths.
 pub fn lengths_right(
     edition: Edition,

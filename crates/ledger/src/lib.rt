@@ -1,5 +1,5 @@
-// The ledger's public calls over the five lent tables: header, wallets, escrows, receipts, journal. Each is the call of `editions` at the first
-// edition, and asks nothing of its caller.
+// The ledger's public calls over the five lent tables: header, wallets, escrows, receipts, journal. Each is the call of `editions`, or for a lookup
+// of `looking`, at the first edition, and asks nothing of its caller.
 ghost use mathlib.Core.Path.{_≡_};
 ghost use Rattle.rules.specs.Ledger.{first-edition, outcome, fresh};
 ghost use Rattle.rules.specs.Moments.{lent};

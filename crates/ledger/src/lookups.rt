@@ -12,14 +12,14 @@ use rules::WalletNumber;
 pub fn escrow_place(header: &[u64], escrows: &[u64], n: EscrowNumber) -> usize
     ensures { λ r. ⌜ r ≡ escrowPlace first-edition (now (header .entry)) (now (escrows .entry)) (n .0) ⌝ }
 {
-    editions::lookups::escrow_place(FIRST, header, escrows, n)
+    looking::escrow_place(FIRST, header, escrows, n)
 }
 
 // The same of a receipt.
 pub fn receipt_place(header: &[u64], receipts: &[u64], n: ReceiptNumber) -> usize
     ensures { λ r. ⌜ r ≡ receiptPlace first-edition (now (header .entry)) (now (receipts .entry)) (n .0) ⌝ }
 {
-    editions::lookups::receipt_place(FIRST, header, receipts, n)
+    looking::receipt_place(FIRST, header, receipts, n)
 }
 
 // That very row of an escrow, or an empty part.
@@ -27,7 +27,7 @@ pub fn escrow_row<'a>(header: &[u64], escrows: &'a [u64], n: EscrowNumber) -> &'
     ensures { λ r. ⌜ (now r ≡ escrowPart first-edition (now (header .entry)) (now (escrows .entry)) (n .0))
         × (r .ptr ≡ placed (escrows .entry .ptr) (escrowPlace first-edition (now (header .entry)) (now (escrows .entry)) (n .0))) ⌝ }
 {
-    editions::lookups::escrow_row(FIRST, header, escrows, n)
+    looking::escrow_row(FIRST, header, escrows, n)
 }
 
 // That very row of a receipt, or an empty part.
@@ -35,12 +35,12 @@ pub fn receipt_row<'a>(header: &[u64], receipts: &'a [u64], n: ReceiptNumber) ->
     ensures { λ r. ⌜ (now r ≡ receiptPart first-edition (now (header .entry)) (now (receipts .entry)) (n .0))
         × (r .ptr ≡ placed (receipts .entry .ptr) (receiptPlace first-edition (now (header .entry)) (now (receipts .entry)) (n .0))) ⌝ }
 {
-    editions::lookups::receipt_row(FIRST, header, receipts, n)
+    looking::receipt_row(FIRST, header, receipts, n)
 }
 
 // The number of the first written wallet with the id; 0 where there is none.
 pub fn wallet_row(header: &[u64], wallets: &[u64], id: u64) -> WalletNumber
     ensures { λ r. ⌜ r .0 ≡ walletNumber first-edition (now (header .entry)) (now (wallets .entry)) id ⌝ }
 {
-    editions::lookups::wallet_row(FIRST, header, wallets, id)
+    looking::wallet_row(FIRST, header, wallets, id)
 }

@@ -1,14 +1,14 @@
--- `editions::lookups::receipt_row` meets its contract.
+-- `looking::receipt_row` meets its contract.
 use native.Mathlib.Omega.{arith}
 use Rattle.rules.specs.Limits.{RECEIPT-LEN, MAX-RECEIPTS, RECEIPTS}
 use Rattle.rules.proofs.Places.{place-within}
-use Rattle.editions.proofs.Parts.{part-by}
+use Rattle.looking.proofs.Parts.{part-by}
 use borrow.Author.Needs.{needs}
-use Rattle.editions.proofs.lookups.receipt_row.Statement.{statement}
-use Rattle.editions.proofs.lookups.receipt_row.Tie as tie
-use Rattle.editions.proofs.lookups.receipt_row.Reads as reads
-use Rattle.editions.proofs.lookups.receipt_row.Lts as lts
-use Rattle.editions.proofs.lookups.receipt_place.Reads as receipt-place-reads
+use Rattle.looking.proofs.receipt_row.Statement.{statement}
+use Rattle.looking.proofs.receipt_row.Tie as tie
+use Rattle.looking.proofs.receipt_row.Reads as reads
+use Rattle.looking.proofs.receipt_row.Lts as lts
+use Rattle.looking.proofs.receipt_place.Reads as receipt-place-reads
 use Rattle.rows.proofs.row_part.Reads as row-part-reads
 
 receipt-place-requires : tie.Need-receipt-place-requires

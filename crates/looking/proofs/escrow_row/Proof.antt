@@ -1,14 +1,14 @@
--- `editions::lookups::escrow_row` meets its contract.
+-- `looking::escrow_row` meets its contract.
 use native.Mathlib.Omega.{arith}
 use Rattle.rules.specs.Limits.{MAX-ESCROWS, ESCROWS}
 use Rattle.rules.proofs.Places.{place-within}
-use Rattle.editions.proofs.Parts.{part-by}
+use Rattle.looking.proofs.Parts.{part-by}
 use borrow.Author.Needs.{needs}
-use Rattle.editions.proofs.lookups.escrow_row.Statement.{statement}
-use Rattle.editions.proofs.lookups.escrow_row.Tie as tie
-use Rattle.editions.proofs.lookups.escrow_row.Reads as reads
-use Rattle.editions.proofs.lookups.escrow_row.Lts as lts
-use Rattle.editions.proofs.lookups.escrow_place.Reads as escrow-place-reads
+use Rattle.looking.proofs.escrow_row.Statement.{statement}
+use Rattle.looking.proofs.escrow_row.Tie as tie
+use Rattle.looking.proofs.escrow_row.Reads as reads
+use Rattle.looking.proofs.escrow_row.Lts as lts
+use Rattle.looking.proofs.escrow_place.Reads as escrow-place-reads
 use Rattle.rows.proofs.row_part.Reads as row-part-reads
 
 escrow-place-requires : tie.Need-escrow-place-requires

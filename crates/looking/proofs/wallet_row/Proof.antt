@@ -1,10 +1,10 @@
--- `editions::lookups::wallet_row` meets its contract.
-use Rattle.editions.proofs.Parts.{not-asked, counted, found, not-found}
+-- `looking::wallet_row` meets its contract.
+use Rattle.looking.proofs.Parts.{not-asked, counted, found, not-found}
 use borrow.Author.Needs.{needs}
-use Rattle.editions.proofs.lookups.wallet_row.Statement.{statement}
-use Rattle.editions.proofs.lookups.wallet_row.Tie as tie
-use Rattle.editions.proofs.lookups.wallet_row.Reads as reads
-use Rattle.editions.proofs.lookups.wallet_row.Lts as lts
+use Rattle.looking.proofs.wallet_row.Statement.{statement}
+use Rattle.looking.proofs.wallet_row.Tie as tie
+use Rattle.looking.proofs.wallet_row.Reads as reads
+use Rattle.looking.proofs.wallet_row.Lts as lts
 use Rattle.rows.proofs.at.Reads as at-reads
 use Rattle.rows.proofs.count_right.Reads as count-right-reads
 use Rattle.rows.proofs.numbered.find_wallet.Reads as find-wallet-reads

@@ -1,0 +1,2 @@
+-- Laws that the lookups rest on.
+pub mod Parts
