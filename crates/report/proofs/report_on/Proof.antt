@@ -11,7 +11,7 @@ use Rattle.report.proofs.report_on.Statement.{statement}
 use Rattle.report.proofs.report_on.Tie as tie
 use Rattle.report.proofs.report_on.Reads as reads
 use Rattle.report.proofs.report_on.Lts as lts
-use Rattle.report.proofs.count_entry.Reads as count-entry-reads
+use Rattle.counting.proofs.count_entry.Reads as count-entry-reads
 
 abbrev Inv-loop : tie.InvT-loop
 Inv-loop edition header₀ wallets₀ escrows₀ receipts₀ journal₀ recording figures₀ named₀ told₀ entries counts₀ k₀ header wallets escrows receipts journal figures named told counts k =

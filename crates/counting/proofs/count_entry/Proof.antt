@@ -1,22 +1,22 @@
--- `report::count_entry` meets its contract: what was decided, the row and what will be added make the entry's line (`Found`), and the line says whether
+-- `counting::count_entry` meets its contract: what was decided, the row and what will be added make the entry's line (`Found`), and the line says whether
 -- a figure would pass (Laws.antt).
 use mathlib.Core.List.{[]}
 use Rattle.rules.specs.Ledger.{Ledger, ledgerOf}
 use Rattle.editions.proofs.Submits.{settles-so}
-use Rattle.report.proofs.Laws.{Found, row-in, column-in, stops-here, figures-fit, cell-fits, counts-here}
+use Rattle.counting.proofs.Laws.{Found, row-in, column-in, stops-here, figures-fit, cell-fits, counts-here}
 use borrow.Author.Needs.{needs}
-use Rattle.report.proofs.count_entry.Statement.{statement}
-use Rattle.report.proofs.count_entry.Tie as tie
-use Rattle.report.proofs.count_entry.Reads as reads
-use Rattle.report.proofs.count_entry.Lts as lts
+use Rattle.counting.proofs.count_entry.Statement.{statement}
+use Rattle.counting.proofs.count_entry.Tie as tie
+use Rattle.counting.proofs.count_entry.Reads as reads
+use Rattle.counting.proofs.count_entry.Lts as lts
 use Rattle.editions.proofs.decide.Reads as decide-reads
 use Rattle.grid.proofs.count.Reads as count-reads
 use Rattle.grid.proofs.passing.Reads as passing-reads
 use Rattle.grid.proofs.raise.Reads as raise-reads
 use Rattle.grid.proofs.row_of.Reads as row-of-reads
 use Rattle.grid.proofs.summed.Reads as summed-reads
-use Rattle.report.proofs.apply.Reads as apply-reads
-use Rattle.report.proofs.planned.Reads as planned-reads
+use Rattle.counting.proofs.apply.Reads as apply-reads
+use Rattle.counting.proofs.planned.Reads as planned-reads
 
 -- ---- what the stages that were passed have shown; each is found from the one behind it
 

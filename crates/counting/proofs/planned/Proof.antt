@@ -1,9 +1,9 @@
--- `report::planned` meets its contract: a refusal adds nothing, and of a submission that settles it is what `adding` has worked out.
-use Rattle.report.proofs.Laws.{plans-none, plans-so}
-use Rattle.report.proofs.planned.Statement.{statement}
-use Rattle.report.proofs.planned.Tie as tie
-use Rattle.report.proofs.planned.Reads as reads
-use Rattle.report.proofs.planned.Lts as lts
+-- `counting::planned` meets its contract: a refusal adds nothing, and of a submission that settles it is what `adding` has worked out.
+use Rattle.counting.proofs.Laws.{plans-none, plans-so}
+use Rattle.counting.proofs.planned.Statement.{statement}
+use Rattle.counting.proofs.planned.Tie as tie
+use Rattle.counting.proofs.planned.Reads as reads
+use Rattle.counting.proofs.planned.Lts as lts
 use Rattle.adding.proofs.adds.Reads as adds-reads
 
 returns : tie.Need-returns

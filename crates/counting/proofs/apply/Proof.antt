@@ -1,10 +1,10 @@
--- `report::apply` meets its contract: a refusal changes nothing, and otherwise nothing stands against settling.
-use Rattle.report.proofs.Laws.{apply-refused, apply-settled}
+-- `counting::apply` meets its contract: a refusal changes nothing, and otherwise nothing stands against settling.
+use Rattle.counting.proofs.Laws.{apply-refused, apply-settled}
 use borrow.Author.Needs.{needs}
-use Rattle.report.proofs.apply.Statement.{statement}
-use Rattle.report.proofs.apply.Tie as tie
-use Rattle.report.proofs.apply.Reads as reads
-use Rattle.report.proofs.apply.Lts as lts
+use Rattle.counting.proofs.apply.Statement.{statement}
+use Rattle.counting.proofs.apply.Tie as tie
+use Rattle.counting.proofs.apply.Reads as reads
+use Rattle.counting.proofs.apply.Lts as lts
 use Rattle.settling.proofs.settle.Reads as settle-reads
 
 -- what is asked at the start, found from where the submission is not refused

@@ -1,0 +1,2 @@
+-- Laws that the counting of an entry rests on.
+pub mod Laws

@@ -1,2 +1,0 @@
--- What the report's contracts cite.
-pub mod Turn
