@@ -26,7 +26,7 @@ const WANTED: [&str; 25] = [
     "disagrees, by the number only",
     "disagrees, by the word only",
     "disagrees, by number and word",
-    "disagrees, by a number above 40",
+    "disagrees, by a number that no answer has",
     "disagrees, by a changed record",
     "disagrees, before a cut end",
     "disagrees, on other sizes",
@@ -135,7 +135,10 @@ fn reached(replay: &Replay, found: &Verdict) -> Vec<String> {
             recorded.number != answered.number && recorded.word != answered.word,
             "by number and word",
         ),
-        (recorded.number > LAST_ANSWER as u64, "by a number above 40"),
+        (
+            recorded.number > LAST_ANSWER as u64,
+            "by a number that no answer has",
+        ),
         (change == Change::WordThenCut, "before a cut end"),
         (replay.on == On::OtherSizes, "on other sizes"),
         (

@@ -110,9 +110,9 @@ pub enum Change {
     Nothing,
     /// A byte of an entry's record is another.
     Record,
-    /// An entry has another number from 0 to 40.
+    /// An entry has another number, of those that answers have.
     Number,
-    /// An entry has a number above 40.
+    /// An entry has a number that no answer has.
     NumberAbove,
     /// A byte of an entry's word is another.
     Word,

@@ -12,7 +12,7 @@ use crate::history::{Begin, History};
 use crate::replay::lent::{another_length, Length, On};
 use crate::replay::recording::{By, Change};
 use crate::replay::Replay;
-use crate::tally::Tally;
+use crate::tally::{Tally, LAST_ANSWER};
 
 /// One round of so many has reports; the rounds of the largest tables are among them.
 const ONE_ROUND_OF: u64 = 4;
@@ -23,6 +23,9 @@ const REPORTS: u64 = 2;
 const CUTS: u64 = 8;
 /// An entry that is cut is one of so many.
 const BEFORE_A_CUT: usize = 4;
+
+/// The first number that is no answer's.
+const NO_ANSWER: u64 = LAST_ANSWER as u64 + 1;
 
 use Room::{Just, Short};
 
@@ -164,7 +167,7 @@ fn brought(aim: u64, made: &[Made], dice: &mut Dice) -> Brought {
     };
     Brought {
         // what stands beside a figure of 0 is not looked at
-        named: dice.pick(&[[0; 3], [0, 3, 7], [0, u64::MAX, 41]]),
+        named: dice.pick(&[[0; 3], [0, 3, 7], [0, u64::MAX, NO_ANSWER]]),
         seed: dice.pick(&[0, 0, aim + 1]),
         full,
     }
@@ -229,7 +232,7 @@ fn odd(history: &History, turn: u64, dice: &mut Dice) -> Month {
     match turn % 8 {
         0 | 1 | 4 | 5 => {
             let wrong = On::Length(dice.index(5), Length::WordMore);
-            let named = [dice.between(1, 6), dice.below(12), dice.below(41)];
+            let named = [dice.between(1, 6), dice.below(12), dice.below(NO_ANSWER)];
             let ons = dice.pick(&[[on, wrong], [wrong, on]]);
             let parts = ons.map(|on| part(history, 5, Change::Nothing, on, dice));
             let brought = Brought {
