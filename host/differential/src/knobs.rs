@@ -18,9 +18,6 @@ impl Step {
         let escrow = view
             .escrow(true, self.pick())
             .map_or(clock, |row| row.deadline);
-        let receipt = view
-            .receipt(true, self.pick())
-            .map_or(clock, |row| row.deadline);
         let entry = view.entry(self.pick()).map_or(clock, |row| row.settled_at);
         let later = |moment: u64| if moment > LAST_TIME { clock } else { moment };
         // a hold of whoever signs if this step is a payment, unless its nonce brings another signer
@@ -29,6 +26,9 @@ impl Step {
             let hold = view.hold(payer, self.pick() / 3);
             hold.map_or(clock, |settled_at| later(settled_at + span).max(clock))
         };
+        if let Some(moment) = self.around_its_window(view) {
+            return later(moment).max(clock);
+        }
         match self.tick {
             1 => later(clock + 1),
             2 => later(clock + 1_000),
@@ -40,8 +40,6 @@ impl Step {
             8 => clock.saturating_sub(1),
             9 => escrow.max(clock),
             10 => later(escrow + 1).max(clock),
-            11 => receipt.max(clock),
-            12 => later(receipt + 1).max(clock),
             13 => later(entry + DAY_MS).max(clock),
             14 => later(entry + DAY_MS + 1).max(clock),
             15 if self.pick % 64 == 0 => LAST_TIME,

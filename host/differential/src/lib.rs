@@ -12,7 +12,7 @@
 //! - [`replay`] records what a history submits and how it is answered, changes the recording, and
 //! replays it on other tables. [`report`] adds such recordings to months' reports.
 //! - [`plan`] puts these together into a run of a given length from a given seed, of one [`mix`] or
-//! the other. [`tally`], [`daily`] and [`retries`] say what the run came to.
+//! the other. [`tally`], [`daily`], [`retries`] and [`window`] say what the run came to.
 
 #![forbid(unsafe_code)]
 #![warn(missing_docs)]
@@ -30,6 +30,7 @@ pub mod plan;
 pub mod reached;
 pub mod record;
 pub mod replay;
+mod replies;
 pub mod report;
 pub mod retries;
 pub mod shrink;
@@ -39,3 +40,4 @@ pub mod step;
 pub mod tally;
 pub mod twin;
 mod view;
+pub mod window;

@@ -52,7 +52,7 @@ pub struct Step {
 }
 
 /// How many steps the knob of the clock has; the others have fewer than 16.
-const TICKS: u64 = 20;
+const TICKS: u64 = 21;
 const KNOB: u64 = 16;
 
 impl Step {
@@ -65,7 +65,9 @@ impl Step {
         } else {
             dice.pick(&often)
         };
-        Step::of(op, dice, wild).at_the_end_of_a_hold(dice)
+        Step::of(op, dice, wild)
+            .at_the_end_of_a_hold(dice)
+            .at_the_end_of_a_window(dice, 3)
     }
 
     /// A step by chance that settles more often than not: few knobs are not plain, and the clock
@@ -90,6 +92,7 @@ impl Step {
             step.flags = 5;
         }
         step.at_the_end_of_a_hold(dice)
+            .at_the_end_of_a_window(dice, 5)
     }
 
     /// One payment in twelve comes, if its signer has a hold, when that counts for the last time or
@@ -133,9 +136,11 @@ impl Step {
         if dice.once_in(30) {
             step.damage = dice.below(KNOB) as u8;
         }
-        // Half of the claims are linked, and some of those by or to somebody else.
+        // Half of the claims are linked, some of those by or to somebody else, or for as long as the
+        // escrow.
         if step.op == 5 && dice.once_in(2) {
             step.link = 1;
+            step.until = dice.pick(&[step.until, step.until, step.until, 6]);
             step.signer = dice.pick(&[step.signer, step.signer, step.signer, 1]);
             step.target = dice.pick(&[step.target, step.target, step.target, 6]);
         }
@@ -175,9 +180,7 @@ impl Step {
         let escrow = view
             .escrow(true, self.pick())
             .or_else(|| view.escrow(false, self.pick()));
-        let receipt = view
-            .receipt(true, self.pick())
-            .or_else(|| view.receipt(false, self.pick()));
+        let receipt = self.answered(&view, now);
         let link = if op == 6 { self.claim_link(&view) } else { 0 };
         let linked = if link == 0 {
             None

@@ -7,6 +7,7 @@ use crate::reached::Reached;
 use crate::replay::counts::Replays;
 use crate::report::counts::Reports;
 use crate::retries;
+use crate::window;
 
 /// The highest answer number.
 pub const LAST_ANSWER: usize = 41;
@@ -26,6 +27,8 @@ pub struct Tally {
     pub daily: Reached,
     /// Submissions whose signer and nonce one journal row decided.
     pub retries: Reached,
+    /// Replies and sweeps that a receipt's acceptance deadline decided.
+    pub window: Reached,
     /// What replays of recordings came to. The entries replayed are not among the submissions.
     pub replays: Replays,
     /// What reports came to. Nor are the entries added to them.
@@ -41,6 +44,7 @@ impl Default for Tally {
             other_calls: 0,
             daily: daily::none(),
             retries: retries::none(),
+            window: window::none(),
             replays: Replays::default(),
             reports: Reports::default(),
         }
@@ -124,6 +128,7 @@ impl Tally {
         self.other_calls += other.other_calls;
         self.daily.add(&other.daily);
         self.retries.add(&other.retries);
+        self.window.add(&other.window);
         self.replays.add(&other.replays);
         self.reports.add(&other.reports);
     }
@@ -166,6 +171,7 @@ impl fmt::Display for Tally {
         }
         writeln!(f, "{}", self.daily)?;
         writeln!(f, "{}", self.retries)?;
+        writeln!(f, "{}", self.window)?;
         writeln!(f, "{}", self.replays)?;
         write!(f, "{}", self.reports)
     }

@@ -12,6 +12,7 @@ use crate::replay::verdict;
 use crate::report::twice::{told, Twice};
 use crate::retries;
 use crate::tally::Tally;
+use crate::window;
 
 /// Five tables that a test owns.
 pub type World = Tables<Vec<u64>>;
@@ -111,11 +112,30 @@ pub fn first_difference(core: &World, second: &World) -> Option<Difference> {
     None
 }
 
+/// What a ledger began as.
+#[derive(Clone, Copy, Debug, PartialEq, Eq)]
+pub enum Began {
+    /// Started afresh: submissions wrote all that is written.
+    Afresh,
+    /// Lent as it stood.
+    Lent,
+}
+
+impl fmt::Display for Began {
+    fn fmt(&self, f: &mut fmt::Formatter<'_>) -> fmt::Result {
+        f.write_str(match self {
+            Began::Afresh => "a ledger begun afresh",
+            Began::Lent => "a lent ledger",
+        })
+    }
+}
+
 /// A world twice, once for each program.
 #[derive(Clone, Debug)]
 pub struct Twin {
     core: World,
     second: World,
+    began: Began,
 }
 
 impl Twin {
@@ -124,6 +144,7 @@ impl Twin {
         Twin {
             second: world.clone(),
             core: world,
+            began: Began::Lent,
         }
     }
 
@@ -142,12 +163,17 @@ impl Twin {
         // the second program's tables are still as they were before the call
         let paid = daily::decided(&self.second, record, answer.number);
         let tried = retries::decided(&self.second, record, answer.number);
+        let timed = window::decided(&self.second, record, answer.number, self.began);
         let second = guarded(|| second::submit(&mut lent(&mut self.second), record))?;
         let answer = same("answer and word", (answer.number, answer.word), second)?;
         self.compare()?;
+        if timed.iter().any(|way| way == window::NEVER) {
+            return Err(Difference(format!("{}: this must not be", window::NEVER)));
+        }
         tally.count(record, answer.0);
         tally.daily.count(paid);
         tally.retries.count(tried);
+        tally.window.count(timed);
         tally.on_largest += u64::from(is_largest(&self.core));
         Ok(answer)
     }
@@ -158,6 +184,9 @@ impl Twin {
         let second = guarded(|| second::fresh(&mut lent(&mut self.second)))?;
         let answer = same("answer to a fresh start", core, second)?;
         self.compare()?;
+        if answer == 0 {
+            self.began = Began::Afresh;
+        }
         tally.other_calls += 1;
         Ok(answer)
     }

@@ -26,6 +26,7 @@ pub struct ReceiptSeen {
     pub number: u64,
     pub requester: u64,
     pub deadline: u64,
+    pub is_pending: bool,
 }
 
 /// The named words of a journal row that steps use.
@@ -142,15 +143,17 @@ impl<'a> View<'a> {
         around(&rows, pick)
     }
 
-    pub fn receipt(&self, pending: bool, pick: u64) -> Option<ReceiptSeen> {
+    /// One of the receipts of this kind.
+    pub fn receipt(&self, kind: impl Fn(&ReceiptSeen) -> bool, pick: u64) -> Option<ReceiptSeen> {
         let rows: Vec<ReceiptSeen> = (1..)
             .zip(self.ledger.receipts())
-            .filter(|(_, row)| !pending || row.state() == Some(ReceiptState::Pending))
             .map(|(number, row)| ReceiptSeen {
                 number,
                 requester: row.requester(),
                 deadline: seen(row.acceptance_deadline()),
+                is_pending: row.state() == Some(ReceiptState::Pending),
             })
+            .filter(kind)
             .collect();
         around(&rows, pick)
     }

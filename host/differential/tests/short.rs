@@ -1,6 +1,7 @@
 //! The seeded short runs: no difference, and every answer that the rules list is reached, every way
-//! in which a hold decides at the daily cap or a journal row whether a nonce is used, every finding
-//! of a replay, and all that a report must come to.
+//! in which a hold decides at the daily cap, a journal row whether a nonce is used or an acceptance
+//! deadline whether a reply comes in time, every finding of a replay, and all that a report must
+//! come to.
 
 use differential::mix::Mix;
 use differential::plan::{run, Plan, SHORT};
@@ -11,6 +12,7 @@ fn finds_no_difference_and_reaches_all(plan: Plan) {
     assert_eq!(tally.missing(), [], "not reached");
     assert_eq!(tally.daily.missing(), [""; 0], "not reached by payments");
     assert_eq!(tally.retries.missing(), [""; 0], "not reached by retries");
+    assert_eq!(tally.window.missing(), [""; 0], "not reached by replies");
     assert_eq!(tally.replays.missing(), [""; 0], "not reached by replays");
     assert_eq!(tally.reports.missing(), [""; 0], "not reached by reports");
     assert_eq!(

@@ -17,7 +17,7 @@ use crate::replay::recording::Change;
 use crate::twin::{slices, World, ROW_WORDS, TABLE_NAMES};
 
 /// What a run must come to, each at least once, and how it is told.
-const WANTED: [&str; 57] = [
+const WANTED: [&str; 59] = [
     "named: granted",
     "named: transferred",
     "named: released",
@@ -54,6 +54,8 @@ const WANTED: [&str; 57] = [
     "wrong length: journal",
     "counted: malformed, in its operation's row",
     "counted: malformed, in row 0",
+    "counted: an accept after the deadline",
+    "counted: a dispute after the deadline",
     "counted: released by a release",
     "counted: released by an accept",
     "counted: released by a sweep",

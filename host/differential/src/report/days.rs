@@ -1,5 +1,6 @@
 //! Histories in which credits move in every way that a report counts: grants, transfers, releases,
-//! refunds, accepts, and sweeps that release and expire in one go.
+//! refunds, accepts, and sweeps that release and expire in one go. Replies that come too late are
+//! among them.
 
 use milebeacon::Sizes;
 
@@ -15,6 +16,7 @@ const RELEASE: u8 = 3;
 const REFUND: u8 = 4;
 const CLAIM: u8 = 5;
 const ACCEPT: u8 = 6;
+const DISPUTE: u8 = 7;
 const SWEEP: u8 = 8;
 
 /// Such a history, mostly of one day. Some steps by chance are among the others.
@@ -94,7 +96,13 @@ fn day(steps: &mut Vec<Step>, dice: &mut Dice) {
     };
     steps.extend([auto, auto, other, claim(dice, 0)]);
     steps.extend((0..dice.between(1, 3)).map(|_| short(dice)));
-    // when the time for acceptance is over, all that is due or so many rows
+    // when the time for acceptance is over, a reply to one of the claims, which is refused
+    let late = dice.pick(&[ACCEPT, DISPUTE]);
+    steps.push(Step {
+        tick: 12,
+        ..plain(late, dice)
+    });
+    // and all that is due or so many rows
     steps.push(Step {
         tick: 12,
         amount: dice.pick(&[2, 2, 2, 4, 4, 4, 7, 0]),

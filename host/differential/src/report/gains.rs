@@ -30,6 +30,8 @@ pub const EXPIRED: usize = 4;
 pub const CELL: usize = 5;
 
 const MALFORMED: usize = 3;
+const ACCEPTANCE_CLOSED: usize = 41;
+const ACCEPT: usize = 7;
 const OPERATIONS: u8 = 11;
 const SWEEP: usize = 9;
 
@@ -82,6 +84,13 @@ pub fn gains(tables: &World, recording: &[u8]) -> Option<Vec<Gain>> {
                 "malformed, in row 0"
             } else {
                 "malformed, in its operation's row"
+            });
+        }
+        if answer == ACCEPTANCE_CLOSED {
+            ways.push(if row == ACCEPT {
+                "an accept after the deadline"
+            } else {
+                "a dispute after the deadline"
             });
         }
         let mut credits = [0; 5];

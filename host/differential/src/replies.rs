@@ -1,0 +1,80 @@
+//! Which receipt a reply is about, and when replies and sweeps come: within a receipt's window, at
+//! its end, or after it.
+
+use crate::dice::Dice;
+use crate::step::{Step, DAY_MS};
+use crate::view::{ReceiptSeen, View};
+
+const ACCEPT: u8 = 6;
+const DISPUTE: u8 = 7;
+const SWEEP: u8 = 8;
+
+/// The clock's knobs for the last moment of a receipt's window, for the one after it, and for one
+/// long after it.
+const AT: u8 = 11;
+const JUST_AFTER: u8 = 12;
+const LONG_AFTER: u8 = 19;
+
+/// The knob of the target for a receipt that is closed.
+const CLOSED: u8 = 7;
+/// The knob of the signer for a party with no wallet.
+const ANOTHER: u8 = 3;
+/// The knob of the flags for another bit 3, that is, for a dispute without a reason.
+const NO_REASON: u8 = 5;
+
+impl Step {
+    /// The moment that a knob of the clock asks for, if it goes by a receipt's deadline.
+    pub(crate) fn around_its_window(&self, view: &View<'_>) -> Option<u64> {
+        let after = match self.tick {
+            AT => 0,
+            JUST_AFTER => 1,
+            LONG_AFTER => 2 * DAY_MS + self.pick() % 2,
+            _ => return None,
+        };
+        self.awaited(view).map(|receipt| receipt.deadline + after)
+    }
+
+    /// The receipt that the clock waits for: one whose window has not ended, if there is one.
+    fn awaited(&self, view: &View<'_>) -> Option<ReceiptSeen> {
+        let meant = |row: &ReceiptSeen| row.is_pending != (self.target == CLOSED);
+        let clock = view.clock();
+        view.receipt(|row| meant(row) && row.deadline >= clock, self.pick())
+            .or_else(|| view.receipt(meant, self.pick()))
+    }
+
+    /// The receipt that a reply is about: the one that its clock has waited for, or else one that can
+    /// be answered now, if there is one.
+    pub(crate) fn answered(&self, view: &View<'_>, now: u64) -> Option<ReceiptSeen> {
+        let pick = self.pick();
+        let in_time = |row: &ReceiptSeen| row.is_pending && row.deadline >= now;
+        let chosen = match (self.tick, self.target) {
+            (AT | JUST_AFTER | LONG_AFTER, _) => self.awaited(view),
+            (_, CLOSED) => view.receipt(|row| !row.is_pending, pick),
+            _ => view.receipt(in_time, pick),
+        };
+        chosen
+            .or_else(|| view.receipt(|row| row.is_pending, pick))
+            .or_else(|| view.receipt(|_| true, pick))
+    }
+
+    /// One reply in so many comes in the last moment of its receipt's window, just after it or long
+    /// after it; and of those some are by somebody else, without a reason, or to a closed receipt.
+    /// So do sweeps, but not long after it.
+    pub(crate) fn at_the_end_of_a_window(mut self, dice: &mut Dice, once_in: u64) -> Step {
+        if !matches!(self.op, ACCEPT | DISPUTE | SWEEP) || !dice.once_in(once_in) {
+            return self;
+        }
+        if self.op == SWEEP {
+            self.tick = dice.pick(&[AT, JUST_AFTER]);
+            return self;
+        }
+        self.tick = dice.pick(&[AT, AT, JUST_AFTER, JUST_AFTER, LONG_AFTER]);
+        match dice.below(8) {
+            0 => self.signer = ANOTHER,
+            1 => self.target = CLOSED,
+            2 | 3 if self.op == DISPUTE => self.flags = NO_REASON,
+            _ => {}
+        }
+        self
+    }
+}
