@@ -140,7 +140,7 @@ impl Step {
         // escrow.
         if step.op == 5 && dice.once_in(2) {
             step.link = 1;
-            step.until = dice.pick(&[step.until, step.until, step.until, 6]);
+            step.until = dice.pick(&[step.until, 6]);
             step.signer = dice.pick(&[step.signer, step.signer, step.signer, 1]);
             step.target = dice.pick(&[step.target, step.target, step.target, 6]);
         }
