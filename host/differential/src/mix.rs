@@ -123,7 +123,8 @@ fn settling(round: u64, dice: &mut Dice) -> Vec<History> {
     let mut histories: Vec<History> = (0..2).map(|_| History::roll(dice, 120)).collect();
     for begin in [Begin::Fresh, Begin::Fresh, Begin::Fresh, Begin::HalfFull] {
         let sizes = roomy_sizes(dice);
-        histories.push(History::settling(begin, sizes, dice, 250));
+        let history = History::settling(begin, sizes, dice, 250);
+        histories.push(with_newcomers(history, dice));
     }
     if round % 4 == 0 {
         let begin = dice.pick(&[Begin::Fresh, Begin::HalfFull]);
@@ -134,4 +135,14 @@ fn settling(round: u64, dice: &mut Dice) -> Vec<History> {
         histories.push(History::settling(begin, Sizes::LARGEST, dice, 100));
     }
     histories
+}
+
+/// The same, but one grant in sixteen is to a party that has no wallet; for some no row is left.
+fn with_newcomers(mut history: History, dice: &mut Dice) -> History {
+    for grant in history.steps.iter_mut().filter(|step| step.op == 0) {
+        if dice.once_in(16) {
+            grant.target = 1;
+        }
+    }
+    history
 }
