@@ -60,6 +60,12 @@ fn plainer_steps(small: &mut Small<History>, test: Test<'_, History>) {
         |step| step.pick /= 2,
     ];
     for change in plainer {
+        // of all steps at once, as several may have to mean the same row; or of one after another
+        let mut candidate = small.inner.clone();
+        candidate.steps.iter_mut().for_each(change);
+        if small.adopt(candidate, test) {
+            continue;
+        }
         for place in 0..small.inner.steps.len() {
             let mut candidate = small.inner.clone();
             if let Some(step) = candidate.steps.get_mut(place) {
