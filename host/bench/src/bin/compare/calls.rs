@@ -1,8 +1,8 @@
 //! The calls that are compared.
 
-use milebeacon::{Ledger, Sizes, Tables};
+use milebeacon::{Envelope, Ledger, ReceiptNumber, Sizes, Submission, Tables};
 
-use bench::fill::{filled, Ids};
+use bench::fill::{filled, Ids, NOW};
 use bench::stream::{hold_and_release, records, transfer};
 
 /// A call, and the tables that it finds.
@@ -34,5 +34,13 @@ pub fn on_full_tables(ids: Ids) -> Vec<Call> {
         call("transfer", &full, &records(&[transfer(ids)])[0], 0),
         call("open", &full, &open, 0),
         call("release", &held, &release, 0),
+        call("accept", &full, &records(&[accept(&full)])[0], 0),
     ]
+}
+
+/// The first receipt is accepted, which releases its escrow.
+fn accept(full: &Ledger) -> Submission {
+    let receipt = full.receipts().next().expect("receipts are written");
+    let requester = Envelope::new(NOW, receipt.requester(), 1);
+    Submission::accept(requester, ReceiptNumber(1))
 }
