@@ -11,12 +11,12 @@ use lib.ListN.{getD}
 use lib.Dec.{eqb}
 use borrow.Author.Tests.{ne-eqb, eqb-false}
 use Rattle.rules.specs.Limits.{ESCROWS, ESCROW-AMOUNT, ESCROW-STATE, IS-OPEN, RELEASED, REFUNDED, EXPIRED, RECEIPT-LINK}
-use Rattle.rules.specs.Limits.{GRANT, TRANSFER, OPEN, RELEASE, REFUND, CLAIM, ACCEPT, DISPUTE, SWEEP, FREEZE, CAPS}
+use Rattle.rules.specs.Limits.{GRANT, TRANSFER, OPEN, RELEASE, REFUND, CLAIM, ACCEPT, DISPUTE, SWEEP, FREEZE, CAPS, CLOSE, LAST-OPERATION}
 use Rattle.rules.specs.Table.{word}
 use Rattle.rules.specs.Ledger.{Edition, Ledger, outcome, escrow, receipt, escrowCount, receiptCount, putHead, putWallet, putReceipt, newEscrow, newReceipt, newEntry}
 use Rattle.rules.specs.Refusals.{releasable}
 use Rattle.rules.specs.Settle.{raise, lower, ensureWallet, closeReceipt, acceptRow, swept, escrowOf, operations, idle, operate, enter, settle}
-use Rattle.rules.specs.Settle.{grant, transfer, openEscrow, release, refund, claim, accept, dispute, sweep, freeze, caps}
+use Rattle.rules.specs.Settle.{grant, transfer, openEscrow, release, refund, claim, accept, dispute, sweep, freeze, caps, close}
 use Rattle.rules.specs.Report.{endedAs, addsOf}
 use Rattle.rules.specs.declared.Submission.{Submission}
 use Rattle.rules.proofs.Bools.{and-fst, and-snd, cond-case, not-true-false}
@@ -93,11 +93,11 @@ pub adds-transfer : (w : ℕ) (s : Submission) (L : Ledger) → s .op ≡ TRANSF
 unfolding transfer raise lower putWallet
 adds-transfer w s L o = sym (adds-by TRANSFER w s L o ∙ quiet 0 (s .amount) L (transfer s L .after) (quiet-made (s .target) L _ refl refl))
 
--- 3, 6, 8, 10 and 11: what is none of the others
-pub adds-other : (w : ℕ) (s : Submission) (L : Ledger) → 8 ≤ L .edition .escrow → 1 ≤ s .op → s .op ≤ CAPS
+-- 3, 6, 8, 10, 11 and 12: what is none of the others
+pub adds-other : (w : ℕ) (s : Submission) (L : Ledger) → 8 ≤ L .edition .escrow → 1 ≤ s .op → s .op ≤ LAST-OPERATION
     → (s .op ≡ GRANT → ⊥) → (s .op ≡ TRANSFER → ⊥) → (s .op ≡ RELEASE → ⊥) → (s .op ≡ REFUND → ⊥) → (s .op ≡ ACCEPT → ⊥) → (s .op ≡ SWEEP → ⊥)
     → 0 ∷ 0 ∷ 0 ∷ 0 ∷ 0 ∷ [] ≡ addsOf L s (outcome 0 w (settle s L .after))
-unfolding claim dispute caps closeReceipt putReceipt putWallet putHead newReceipt
+unfolding claim dispute caps close closeReceipt putReceipt putWallet putHead newReceipt
 adds-other w s L wide low high n1 n2 n4 n5 n7 n9 =
     by-op (λ (k : ℕ). s .op ≡ k → 0 ∷ 0 ∷ 0 ∷ 0 ∷ 0 ∷ [] ≡ addsOf L s (outcome 0 w (settle s L .after))) (s .op) low high
     (λ e o. absurd (n1 o)) (λ e o. absurd (n2 o))
@@ -109,6 +109,7 @@ adds-other w s L wide low high n1 n2 n4 n5 n7 n9 =
     (λ e o. absurd (n9 o))
     (λ e o. sym (adds-by FREEZE w s L o ∙ quiet 0 0 L (freeze s L .after) (quiet-freeze s L)))
     (λ e o. sym (adds-by CAPS w s L o ∙ quiet 0 0 L (caps s L .after) (λ st other. ended-same st L _ other refl refl)))
+    (λ e o. sym (adds-by CLOSE w s L o ∙ quiet 0 0 L (close s L .after) (λ st other. ended-same st L _ other refl refl)))
     refl
 
 -- ---- what ends an escrow

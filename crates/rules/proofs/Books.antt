@@ -33,7 +33,7 @@ use Rattle.rules.proofs.Demand12.{fresh-zero}
 use Rattle.rules.proofs.Lengths.{lengths-submit, lent-stays, lent-started}
 use Rattle.rules.proofs.Agree.{Fits}
 use Rattle.rules.proofs.Changes.{fits-make, fits-clock, fits-enter}
-use Rattle.rules.proofs.Operations.{fits-grant, fits-transfer, fits-open, fits-release, fits-refund, fits-claim, fits-accepts, fits-dispute, fits-sweeps, fits-freeze, fits-caps}
+use Rattle.rules.proofs.Operations.{fits-grant, fits-transfer, fits-open, fits-release, fits-refund, fits-claim, fits-accepts, fits-dispute, fits-sweeps, fits-freeze, fits-caps, fits-shut}
 
 -- ---- one settled submission
 
@@ -89,6 +89,7 @@ module _ (L : Ledger) (r : Read) (B : Book) (lent : Lent L) (f : Fits L B) (z : 
       (λ e. fits-sweeps (saidAt SWEEP s L) L B g f (form .now-right))
       (λ e. fits-freeze s L B f)
       (λ e. fits-caps s L B f)
+      (λ e. fits-shut s L B f)
 
 -- ---- starting afresh
 

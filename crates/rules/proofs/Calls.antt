@@ -3,12 +3,12 @@ use mathlib.Core.Path.{_≡_, refl, sym, subst}
 use mathlib.Core.Logic.{_≢_}
 use mathlib.Core.List.{List}
 use mathlib.Core.Bool.{Bool, true, false, _&&_, _||_}
-use Prim.Native.Nat.{ℕ, zero, suc, _≤_, _<_}
+use Prim.Native.Nat.{ℕ, zero, suc, _+_, _≤_, _<_}
 use native.Mathlib.Omega.{arith}
 use lib.Dec.{eqb}
 use borrow.Author.Tests.{ne-eqb, leb-false}
 use Rattle.rules.specs.Limits.{JOURNAL-LEN}
-use Rattle.rules.specs.Limits.{GRANT, TRANSFER, OPEN, RELEASE, REFUND, CLAIM, ACCEPT, DISPUTE, SWEEP, FREEZE, CAPS}
+use Rattle.rules.specs.Limits.{GRANT, TRANSFER, OPEN, RELEASE, REFUND, CLAIM, ACCEPT, DISPUTE, SWEEP, FREEZE, CAPS, CLOSE, LAST-OPERATION}
 use Rattle.rules.specs.Table.{rowsIn, every}
 use Rattle.rules.specs.Ledger.{Ledger, Outcome, outcome, entryCount, full, lengthsRight}
 use Rattle.rules.specs.Record.{readOf}
@@ -71,11 +71,11 @@ pub for-op : (s : Submission) (ops : List ℕ) (x : Bool) → oneOf ops (s .op) 
 for-op s ops x t h = subst (λ (b : Bool). b && x ≡ false) t h
 
 -- every operation but the sweep is signed: computed for each
-pub signed-op : (o : ℕ) → 1 ≤ o → o ≤ CAPS → o ≢ SWEEP → oneOf signed o ≡ true
+pub signed-op : (o : ℕ) → 1 ≤ o → o ≤ LAST-OPERATION → o ≢ SWEEP → oneOf signed o ≡ true
 signed-op o low high ne =
     or-other (eqb o SWEEP) (oneOf signed o) (ne-eqb o SWEEP ne)
     (or-other (eqb o 0) (eqb o SWEEP || oneOf signed o) (ne-eqb o 0 (omega arith))
-    (every-at 12 (λ k. eqb k 0 || (eqb k SWEEP || oneOf signed k)) (unfold every in refl) o (omega arith)))
+    (every-at (LAST-OPERATION + 1) (λ k. eqb k 0 || (eqb k SWEEP || oneOf signed k)) (unfold every in refl) o (omega arith)))
 
 -- a settled submission other than a sweep: its signer, and room for its journal row
 pub record Signed (L : Ledger) (r : Read) : Type 0 where
@@ -92,19 +92,20 @@ settled-signed L r e f ne =
     }
 
 -- a fact for each operation is a fact for the operation of a well-formed submission
-pub by-op {κ} : (Q : ℕ → Type κ) (o : ℕ) → 1 ≤ o → o ≤ CAPS → (o ≡ GRANT → Q GRANT) → (o ≡ TRANSFER → Q TRANSFER) → (o ≡ OPEN → Q OPEN)
+pub by-op {κ} : (Q : ℕ → Type κ) (o : ℕ) → 1 ≤ o → o ≤ LAST-OPERATION → (o ≡ GRANT → Q GRANT) → (o ≡ TRANSFER → Q TRANSFER) → (o ≡ OPEN → Q OPEN)
     → (o ≡ RELEASE → Q RELEASE) → (o ≡ REFUND → Q REFUND) → (o ≡ CLAIM → Q CLAIM) → (o ≡ ACCEPT → Q ACCEPT) → (o ≡ DISPUTE → Q DISPUTE)
-    → (o ≡ SWEEP → Q SWEEP) → (o ≡ FREEZE → Q FREEZE) → (o ≡ CAPS → Q CAPS) → Q o
-by-op Q zero a b f1 f2 f3 f4 f5 f6 f7 f8 f9 f10 f11 = absurd (omega arith)
-by-op Q (suc zero) a b f1 f2 f3 f4 f5 f6 f7 f8 f9 f10 f11 = f1 refl
-by-op Q (suc (suc zero)) a b f1 f2 f3 f4 f5 f6 f7 f8 f9 f10 f11 = f2 refl
-by-op Q (suc (suc (suc zero))) a b f1 f2 f3 f4 f5 f6 f7 f8 f9 f10 f11 = f3 refl
-by-op Q (suc (suc (suc (suc zero)))) a b f1 f2 f3 f4 f5 f6 f7 f8 f9 f10 f11 = f4 refl
-by-op Q (suc (suc (suc (suc (suc zero))))) a b f1 f2 f3 f4 f5 f6 f7 f8 f9 f10 f11 = f5 refl
-by-op Q (suc (suc (suc (suc (suc (suc zero)))))) a b f1 f2 f3 f4 f5 f6 f7 f8 f9 f10 f11 = f6 refl
-by-op Q (suc (suc (suc (suc (suc (suc (suc zero))))))) a b f1 f2 f3 f4 f5 f6 f7 f8 f9 f10 f11 = f7 refl
-by-op Q (suc (suc (suc (suc (suc (suc (suc (suc zero)))))))) a b f1 f2 f3 f4 f5 f6 f7 f8 f9 f10 f11 = f8 refl
-by-op Q (suc (suc (suc (suc (suc (suc (suc (suc (suc zero))))))))) a b f1 f2 f3 f4 f5 f6 f7 f8 f9 f10 f11 = f9 refl
-by-op Q (suc (suc (suc (suc (suc (suc (suc (suc (suc (suc zero)))))))))) a b f1 f2 f3 f4 f5 f6 f7 f8 f9 f10 f11 = f10 refl
-by-op Q (suc (suc (suc (suc (suc (suc (suc (suc (suc (suc (suc zero))))))))))) a b f1 f2 f3 f4 f5 f6 f7 f8 f9 f10 f11 = f11 refl
-by-op Q (suc (suc (suc (suc (suc (suc (suc (suc (suc (suc (suc (suc n)))))))))))) a b f1 f2 f3 f4 f5 f6 f7 f8 f9 f10 f11 = absurd (omega arith)
+    → (o ≡ SWEEP → Q SWEEP) → (o ≡ FREEZE → Q FREEZE) → (o ≡ CAPS → Q CAPS) → (o ≡ CLOSE → Q CLOSE) → Q o
+by-op Q zero a b f1 f2 f3 f4 f5 f6 f7 f8 f9 f10 f11 f12 = absurd (omega arith)
+by-op Q (suc zero) a b f1 f2 f3 f4 f5 f6 f7 f8 f9 f10 f11 f12 = f1 refl
+by-op Q (suc (suc zero)) a b f1 f2 f3 f4 f5 f6 f7 f8 f9 f10 f11 f12 = f2 refl
+by-op Q (suc (suc (suc zero))) a b f1 f2 f3 f4 f5 f6 f7 f8 f9 f10 f11 f12 = f3 refl
+by-op Q (suc (suc (suc (suc zero)))) a b f1 f2 f3 f4 f5 f6 f7 f8 f9 f10 f11 f12 = f4 refl
+by-op Q (suc (suc (suc (suc (suc zero))))) a b f1 f2 f3 f4 f5 f6 f7 f8 f9 f10 f11 f12 = f5 refl
+by-op Q (suc (suc (suc (suc (suc (suc zero)))))) a b f1 f2 f3 f4 f5 f6 f7 f8 f9 f10 f11 f12 = f6 refl
+by-op Q (suc (suc (suc (suc (suc (suc (suc zero))))))) a b f1 f2 f3 f4 f5 f6 f7 f8 f9 f10 f11 f12 = f7 refl
+by-op Q (suc (suc (suc (suc (suc (suc (suc (suc zero)))))))) a b f1 f2 f3 f4 f5 f6 f7 f8 f9 f10 f11 f12 = f8 refl
+by-op Q (suc (suc (suc (suc (suc (suc (suc (suc (suc zero))))))))) a b f1 f2 f3 f4 f5 f6 f7 f8 f9 f10 f11 f12 = f9 refl
+by-op Q (suc (suc (suc (suc (suc (suc (suc (suc (suc (suc zero)))))))))) a b f1 f2 f3 f4 f5 f6 f7 f8 f9 f10 f11 f12 = f10 refl
+by-op Q (suc (suc (suc (suc (suc (suc (suc (suc (suc (suc (suc zero))))))))))) a b f1 f2 f3 f4 f5 f6 f7 f8 f9 f10 f11 f12 = f11 refl
+by-op Q (suc (suc (suc (suc (suc (suc (suc (suc (suc (suc (suc (suc zero)))))))))))) a b f1 f2 f3 f4 f5 f6 f7 f8 f9 f10 f11 f12 = f12 refl
+by-op Q (suc (suc (suc (suc (suc (suc (suc (suc (suc (suc (suc (suc (suc n))))))))))))) a b f1 f2 f3 f4 f5 f6 f7 f8 f9 f10 f11 f12 = absurd (omega arith)

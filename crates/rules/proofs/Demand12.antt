@@ -3,25 +3,29 @@
 use mathlib.Core.Path.{_≡_, refl, sym, ap, _∙_, subst}
 use mathlib.Core.Logic.{_≢_, _⊎_, inl, inr}
 use mathlib.Core.List.{List, []}
-use mathlib.Core.Bool.{true, false, not, _&&_, true≢false}
+use mathlib.Core.Bool.{Bool, true, false, not, _&&_, true≢false}
 use Prim.Native.Nat.{ℕ, _+_, _-_, _*_, _≤_, _<_}
 use native.Mathlib.Omega.{arith}
 use lib.ListN.{getD, length, take, drop, length-take, length-drop}
 use lib.Seq.{drop-length, take-nil}
-use lib.Dec.{eqb, ltb, lit≤}
+use lib.Dec.{eqb, lit≤}
 use borrow.Author.Tests.{ltb-true}
 use Rattle.rules.specs.Limits.{RECORD-BYTES, WALLETS, ESCROWS, RECEIPTS, WALLET-LEN, RECEIPT-LEN, MAX-WALLETS, MAX-ESCROWS, MAX-RECEIPTS, LAST-ANSWER}
 use Rattle.rules.specs.Table.{rowsIn}
-use Rattle.rules.specs.Ledger.{Ledger, Outcome, outcome, rowOf, written, lengthsRight, fresh, freshHeader, setHeader}
+use Rattle.rules.specs.Ledger.{Edition, Ledger, Outcome, outcome, rowOf, written, lengthsRight, fresh, freshHeader, setHeader}
 use Rattle.rules.specs.Record.{wellFormed, encode, accepted, decode, readOf, nothing, Written, writeOf}
 use Rattle.rules.specs.Refusals.{refusals}
 use Rattle.rules.specs.Settle.{settle}
 use Rattle.rules.specs.Submit.{answerOf}
-use Rattle.rules.specs.Lookup.{countRight, rowPlace, partAt, walletNumber}
+use Rattle.rules.specs.Lookup.{countRight, rowPlace, partAt, walletState}
+use Rattle.rules.specs.Wallets.{lookUp, standingOf}
 use Rattle.rules.specs.Promises.{started, IsFirst, On-the-list, Refusal-changes-nothing, Some-are-lent, Fresh-answers, Read-answers, Write-answers}
-use Rattle.rules.specs.Promises.{Part-answers, Settles-exactly, First-refusal, Laid-down}
+use Rattle.rules.specs.Promises.{Stands, Part-answers, Settles-exactly, First-refusal, Laid-down}
 use Rattle.rules.specs.declared.Read.{Read}
-use Rattle.rules.proofs.Bools.{and-fst, and-snd, cond-case}
+use Rattle.rules.specs.declared.WalletState.{WalletState}
+use Rattle.rules.specs.declared.WalletState.the-variants.{Missing}
+use Rattle.rules.proofs.Bools.{and-fst, cond-case}
+use Rattle.rules.proofs.Wallets.{look-case}
 use Rattle.rules.proofs.Places.{count-within, row-whole}
 use Rattle.rules.proofs.Refused.{first-most, first-of, none-of-zero, zero-of-none, table-most, table-numbered}
 use Rattle.rules.proofs.Calls.{by-answer, number-is}
@@ -93,27 +97,30 @@ part-or-none headerLen c len most header t k =
     (λ e. let r = row-whole headerLen c len most header t k e in inr (omega (arith, r, length-take len (drop ((k - 1) * len) t), length-drop ((k - 1) * len) t)))
     (λ e. inl (ap (take len) (drop-length t) ∙ take-nil len))
 
-pub part-answers : Part-answers
-unfolding walletNumber
-part-answers e header t k = (
-  part-or-none (e .header) ESCROWS (e .escrow) MAX-ESCROWS header t k,
-  part-or-none (e .header) RECEIPTS RECEIPT-LEN MAX-RECEIPTS header t k,
-  cond-case (λ (n : ℕ). n ≤ rowsIn WALLET-LEN t) (countRight (e .header) WALLETS WALLET-LEN MAX-WALLETS header t && (not (eqb k 0) && ltb r n))
-      (r + 1) 0 (λ h. found h) (λ h. omega arith),
-)
+-- a wallet is missing, or one of the written rows, which are within the table
+stands : (e : Edition) (header t : List ℕ) (id : ℕ) → Stands (rowsIn WALLET-LEN t) (standingOf (walletState e header t id))
+unfolding walletState
+stands e header t id =
+    cond-case (λ (x : WalletState). Stands (rowsIn WALLET-LEN t) (standingOf x)) (right && not (eqb id 0)) (lookUp t n id) Missing
+    (λ h.
+    let fits = count-within (e .header) WALLETS WALLET-LEN MAX-WALLETS header t (and-fst right (not (eqb id 0)) h) in
+    look-case (λ (x : WalletState). Stands (rowsIn WALLET-LEN t) (standingOf x)) t n id (λ m. inl (refl, refl))
+    (λ l o. inr (inl refl, omega arith, omega (arith, fits, ltb-true (rowOf t n id) n l)))
+    (λ l c. inr (inr refl, omega arith, omega (arith, fits, ltb-true (rowOf t n id) n l))))
+    (λ h. inl (refl, refl))
   where
     n : ℕ
     n = getD header WALLETS 0
 
-    r : ℕ
-    r = rowOf t n k
+    right : Bool
+    right = countRight (e .header) WALLETS WALLET-LEN MAX-WALLETS header t
 
-    found : countRight (e .header) WALLETS WALLET-LEN MAX-WALLETS header t && (not (eqb k 0) && ltb r n) ≡ true → r + 1 ≤ rowsIn WALLET-LEN t
-    found h =
-        let fits : n ≤ rowsIn WALLET-LEN t = count-within (e .header) WALLETS WALLET-LEN MAX-WALLETS header t (and-fst (countRight (e .header) WALLETS WALLET-LEN MAX-WALLETS header t) _ h) in
-        let low : r < n =
-        ltb-true r n (and-snd (not (eqb k 0)) (ltb r n) (and-snd (countRight (e .header) WALLETS WALLET-LEN MAX-WALLETS header t) _ h)) in
-        omega arith
+pub part-answers : Part-answers
+part-answers e header t k = (
+  part-or-none (e .header) ESCROWS (e .escrow) MAX-ESCROWS header t k,
+  part-or-none (e .header) RECEIPTS RECEIPT-LEN MAX-RECEIPTS header t k,
+  stands e header t k,
+)
 
 -- ---- demand 2
 

@@ -8,7 +8,7 @@ use Prim.Native.Nat.{ℕ, _+_, _-_, _/_, _≤_, _<_}
 use native.Mathlib.Omega.{arith}
 use lib.ListN.{length}
 use lib.Dec.{eqb, lit<, lit≤}
-use Rattle.rules.specs.Limits.{WALLET-LEN, RECEIPT-LEN, LAST-TIME-MS, MAX-AMOUNT-MICRO, ID, BALANCE, LOCKED, FROZEN}
+use Rattle.rules.specs.Limits.{WALLET-LEN, RECEIPT-LEN, LAST-TIME-MS, MAX-AMOUNT-MICRO, ID, BALANCE, LOCKED, FROZEN, IS-CLOSED}
 use Rattle.rules.specs.Limits.{FROM, TO, ESCROW-AMOUNT, ESCROW-DEADLINE, ESCROW-STATE, OPENED-AT, ESCROW-CLOSED-AT, ESCROW-CLOSED-BY, IS-OPEN}
 use Rattle.rules.specs.Limits.{PROVIDER, REQUESTER, RECEIPT-LINK, ACCEPTANCE-DEADLINE, AUTO-ACCEPT, RECEIPT-STATE, CLAIMED-AT, RECEIPT-CLOSED-AT}
 use Rattle.rules.specs.Limits.{RECEIPT-CLOSED-BY, RELEASE-CODE}
@@ -88,7 +88,7 @@ module _ (ws : List ℕ) (nw g : ℕ) (es : List ℕ) (len ne : ℕ) (rs : List 
     wallets-stay : (j : ℕ) → WRow ws j → WRow ws′ j
     wallets-stay j r = record {
       id = subst (λ (x : ℕ). 0 < x) (sym (wallet-col j ID (lit< tt) (omega arith) (omega arith))) (r .id);
-      frozen = subst (λ (x : ℕ). x ≤ 1) (sym (wallet-col j FROZEN (lit< tt) (omega arith) (omega arith))) (r .frozen);
+      frozen = subst (λ (x : ℕ). x ≤ IS-CLOSED) (sym (wallet-col j FROZEN (lit< tt) (omega arith) (omega arith))) (r .frozen);
     }
 
     escrows-stay : (j : ℕ) → ERow es len j → ERow es′ len j

@@ -11,7 +11,7 @@ use lib.ListN.{getD, set, length, length-set}
 use lib.Seq.{getD-set-same, getD-set-other}
 use lib.Dec.{lit<, lit≤}
 use borrow.Author.Tests.{ltb-true, ltb-false}
-use Rattle.rules.specs.Limits.{WALLET-LEN, GRANTED, WALLETS, ESCROWS, RECEIPTS, ID, LOCKED, FROZEN, FROM, TO}
+use Rattle.rules.specs.Limits.{WALLET-LEN, GRANTED, WALLETS, ESCROWS, RECEIPTS, ID, LOCKED, FROZEN, IS-CLOSED, FROM, TO}
 use Rattle.rules.specs.Table.{word, putRow, rowsIn}
 use Rattle.rules.specs.Ledger.{Ledger, head, walletCount, escrowCount, receiptCount, rowOf, walletRow, hasWallet, putHead, newWallet}
 use Rattle.rules.specs.Settle.{blankWallet, ensureWallet}
@@ -41,13 +41,13 @@ module _ (ws : List ℕ) (nw g : ℕ) (es : List ℕ) (len ne : ℕ) (rs : List 
   unfolding ws′
   row-right i h (yes e) = subst (λ (k : ℕ). WRow ws′ k) (sym e) (record {
     id = subst (λ (x : ℕ). 0 < x) (sym (word-new ws WALLET-LEN nw ID (blankWallet id) fits (lit< tt))) some-id;
-    frozen = subst (λ (x : ℕ). x ≤ 1) (sym (word-new ws WALLET-LEN nw FROZEN (blankWallet id) fits (lit< tt))) (lit≤ tt);
+    frozen = subst (λ (x : ℕ). x ≤ IS-CLOSED) (sym (word-new ws WALLET-LEN nw FROZEN (blankWallet id) fits (lit< tt))) (lit≤ tt);
   })
   row-right i h (no e) =
       let l : i < nw = omega (arith, h, e) in
       record {
         id = subst (λ (x : ℕ). 0 < x) (sym (word-old ws WALLET-LEN nw i ID (blankWallet id) l (lit< tt))) (good .wallet-rows i l .id);
-        frozen = subst (λ (x : ℕ). x ≤ 1) (sym (word-old ws WALLET-LEN nw i FROZEN (blankWallet id) l (lit< tt))) (good .wallet-rows i l .frozen);
+        frozen = subst (λ (x : ℕ). x ≤ IS-CLOSED) (sym (word-old ws WALLET-LEN nw i FROZEN (blankWallet id) l (lit< tt))) (good .wallet-rows i l .frozen);
       }
 
   pub new-tables : GoodTables (putRow ws WALLET-LEN nw (blankWallet id)) (nw + 1) g es len ne rs nr

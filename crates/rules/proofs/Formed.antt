@@ -9,7 +9,7 @@ use Prim.Native.Nat.{ℕ, _≤_}
 use lib.ListN.{getD, length}
 use lib.Dec.{eqb}
 use borrow.Author.Tests.{eqb-true, eqb-false, ne-eqb, leb-true}
-use Rattle.rules.specs.Limits.{RECORD-BYTES, MARK-0, MARK-1, LAST-TIME-MS, SWEEP, CAPS}
+use Rattle.rules.specs.Limits.{RECORD-BYTES, MARK-0, MARK-1, LAST-TIME-MS, SWEEP, LAST-OPERATION}
 use Rattle.rules.specs.Record.{usesOf, usedOrZero, formTests, wellFormed, decode, nothing, acceptTests, accepted, readOf}
 use Rattle.rules.specs.declared.Submission.{Submission}
 use Rattle.rules.specs.declared.Read.{Read}
@@ -36,7 +36,7 @@ read-formed b =
 
 pub record Formed (s : Submission) : Type 0 where
   pub low : 1 ≤ s .op
-  pub high : s .op ≤ CAPS
+  pub high : s .op ≤ LAST-OPERATION
   pub named : s .op ≢ SWEEP → s .signer ≢ 0
   pub sweep-unsigned : s .op ≡ SWEEP → s .signer ≡ 0
   pub now-right : s .now ≤ LAST-TIME-MS
@@ -49,7 +49,7 @@ formed-says s h =
     let at = all-at (formTests s) h in
     record {
       low = leb-true 1 (s .op) (at 0);
-      high = leb-true (s .op) CAPS (at 1);
+      high = leb-true (s .op) LAST-OPERATION (at 1);
       named = λ ne. eqb-false (s .signer) 0 (not-true-false (eqb (s .signer) 0)
           (or-other (eqb (s .op) SWEEP) (not (eqb (s .signer) 0)) (ne-eqb (s .op) SWEEP ne) (at 15)));
       sweep-unsigned = λ e. eqb-true (s .signer) 0 (subst (λ (o : ℕ). usedOrZero (usesOf o .envelope) (s .signer) ≡ true) e (at 3));

@@ -9,7 +9,7 @@ use native.Mathlib.Decide.{ℕ-discrete}
 use native.Mathlib.Omega.{arith}
 use lib.ListN.{getD, length}
 use lib.Dec.{eqb, lit<, lit≤}
-use Rattle.rules.specs.Limits.{WALLET-LEN, RECEIPT-LEN, LAST-TIME-MS, MAX-AMOUNT-MICRO, MAX-GRANTED-MICRO, ID, BALANCE, LOCKED, FROZEN, IS-OPEN}
+use Rattle.rules.specs.Limits.{WALLET-LEN, RECEIPT-LEN, LAST-TIME-MS, MAX-AMOUNT-MICRO, MAX-GRANTED-MICRO, ID, BALANCE, LOCKED, FROZEN, IS-CLOSED, IS-OPEN}
 use Rattle.rules.specs.Limits.{FROM, TO, ESCROW-AMOUNT, ESCROW-DEADLINE, ESCROW-STATE, OPENED-AT, ESCROW-CLOSED-AT}
 use Rattle.rules.specs.Limits.{PROVIDER, REQUESTER, RECEIPT-LINK, ACCEPTANCE-DEADLINE, AUTO-ACCEPT, RECEIPT-STATE, CLAIMED-AT, RECEIPT-CLOSED-AT}
 use Rattle.rules.specs.Table.{word, put, putRow, rowsIn, sum}
@@ -27,7 +27,7 @@ pub record Moved (ws ws′ : List ℕ) (nw : ℕ) : Type 0 where
   pub length-same : length ws′ ≡ length ws
   pub rows : (v : ℕ) → rowOf ws′ nw v ≡ rowOf ws nw v
   pub ids : (j : ℕ) → word ws′ WALLET-LEN j ID ≡ word ws WALLET-LEN j ID
-  pub frozen : (j : ℕ) → word ws WALLET-LEN j FROZEN ≤ 1 → word ws′ WALLET-LEN j FROZEN ≤ 1
+  pub frozen : (j : ℕ) → word ws WALLET-LEN j FROZEN ≤ IS-CLOSED → word ws′ WALLET-LEN j FROZEN ≤ IS-CLOSED
 
 pub moved-then : {ws ws′ ws″ : List ℕ} {nw : ℕ} → Moved ws ws′ nw → Moved ws′ ws″ nw → Moved ws ws″ nw
 moved-then a b = record {
@@ -38,7 +38,7 @@ moved-then a b = record {
 }
 
 -- one word; if it is the frozen word, it is set to 0 or 1
-pub moved-put : (ws : List ℕ) (nw i c x : ℕ) → c < WALLET-LEN → ID ≢ c → (FROZEN ≡ c → x ≤ 1) → Moved ws (put ws WALLET-LEN i c x) nw
+pub moved-put : (ws : List ℕ) (nw i c x : ℕ) → c < WALLET-LEN → ID ≢ c → (FROZEN ≡ c → x ≤ IS-CLOSED) → Moved ws (put ws WALLET-LEN i c x) nw
 moved-put ws nw i c x c< n0 flag = record {
   length-same = length-put ws WALLET-LEN i c x;
   rows = row-put ws nw i c x c< n0;
@@ -46,11 +46,11 @@ moved-put ws nw i c x c< n0 flag = record {
   frozen = λ j old. go j old (ℕ-discrete FROZEN c);
 }
   where
-    go : (j : ℕ) → word ws WALLET-LEN j FROZEN ≤ 1 → Dec (FROZEN ≡ c) → word (put ws WALLET-LEN i c x) WALLET-LEN j FROZEN ≤ 1
-    go j old (no e) = subst (λ (y : ℕ). y ≤ 1) (sym (word-col ws WALLET-LEN i c x j FROZEN c< (lit< tt) e)) old
+    go : (j : ℕ) → word ws WALLET-LEN j FROZEN ≤ IS-CLOSED → Dec (FROZEN ≡ c) → word (put ws WALLET-LEN i c x) WALLET-LEN j FROZEN ≤ IS-CLOSED
+    go j old (no e) = subst (λ (y : ℕ). y ≤ IS-CLOSED) (sym (word-col ws WALLET-LEN i c x j FROZEN c< (lit< tt) e)) old
     go j old (yes e) =
-        subst (λ (k : ℕ). word (put ws WALLET-LEN i c x) WALLET-LEN j k ≤ 1) (sym e)
-        (put-prop (λ (y : ℕ). y ≤ 1) ws WALLET-LEN i c x j c< (subst (λ (k : ℕ). word ws WALLET-LEN j k ≤ 1) e old) (flag e))
+        subst (λ (k : ℕ). word (put ws WALLET-LEN i c x) WALLET-LEN j k ≤ IS-CLOSED) (sym e)
+        (put-prop (λ (y : ℕ). y ≤ IS-CLOSED) ws WALLET-LEN i c x j c< (subst (λ (k : ℕ). word ws WALLET-LEN j k ≤ IS-CLOSED) e old) (flag e))
 
 module _ {ws ws′ : List ℕ} {nw : ℕ} (m : Moved ws ws′ nw) where
   moved-row : (v : ℕ) → rowOf ws nw v < nw → rowOf ws′ nw v < nw

@@ -19,7 +19,7 @@ use Rattle.rules.specs.Record.{readOf}
 use Rattle.rules.specs.Sound.{Ready}
 use Rattle.rules.specs.Refusals.{oneOf, closing}
 use Rattle.rules.specs.Settle.{raise, lower, ensureWallet, endEscrow, escrowOf, operations, idle, operate, enter, settle}
-use Rattle.rules.specs.Settle.{grant, transfer, openEscrow, release, refund, claim, accept, dispute, sweep, freeze, caps}
+use Rattle.rules.specs.Settle.{grant, transfer, openEscrow, release, refund, claim, accept, dispute, sweep, freeze, caps, close}
 use Rattle.rules.specs.Submit.{answerOf, submit}
 use Rattle.rules.specs.Report.{settledOf, endedAs}
 use Rattle.rules.specs.Month.{heldBy}
@@ -187,12 +187,12 @@ module _ (L : Ledger) (r : Read) (z : answerOf L r ≡ 0) (form : Formed (r .sub
   adds-end t state = adds-closed (closes-end state _ _ _ L wide (escrow-open L r z t))
 
   adds-operate : Adds (settledOf GRANT s 0) (settledOf OPEN s 0) L (operate s L .after)
-  unfolding operate release refund accept dispute sweep caps putWallet
+  unfolding operate release refund accept dispute sweep caps close putWallet
   adds-operate =
       by-op (λ (o : ℕ). Adds (cond (eqb o GRANT) (s .amount) 0) (cond (eqb o OPEN) (s .amount) 0) L (getD operations (o - 1) idle s L .after)) (s .op)
       (form .low) (form .high) (λ e. adds-grant) (λ e. adds-transfer) adds-open (λ e. adds-end (ap (oneOf closing) e) _) (λ e. adds-end (ap (oneOf closing) e) _)
       (λ e. adds-claim) (λ e. adds-closed (closes-accept _ _ _ L wide)) (λ e. adds-closed (closes-receipt _ _ _ _ L))
-      (λ e. adds-closed (closes-swept _ L wide _)) (λ e. adds-freeze) (λ e. adds-nothing refl refl)
+      (λ e. adds-closed (closes-swept _ L wide _)) (λ e. adds-freeze) (λ e. adds-nothing refl refl) (λ e. adds-nothing refl refl)
 
   -- the clock and the journal
   adds-settle : Adds (settledOf GRANT s 0) (settledOf OPEN s 0) L (settle s L .after)

@@ -19,7 +19,7 @@ use Rattle.rules.specs.Record.{bit}
 use Rattle.rules.specs.Refusals.{releasable}
 use Rattle.rules.specs.Settle.{Done, Sweep, sweepStart, sweptReceipts, swept, dueReceipt, dueEscrow, raise, lower, ensureWallet, endEscrow, closeReceipt, acceptRow}
 use Rattle.rules.specs.Settle.{closeDueReceipt, closeDueEscrow, sweepReceipt, sweepEscrow, operations, idle, operate}
-use Rattle.rules.specs.Settle.{grant, transfer, openEscrow, release, refund, claim, accept, dispute, sweep, freeze, caps}
+use Rattle.rules.specs.Settle.{grant, transfer, openEscrow, release, refund, claim, accept, dispute, sweep, freeze, caps, close}
 use Rattle.rules.specs.Promises.{Same-lengths}
 use Rattle.rules.specs.declared.Submission.{Submission}
 use Rattle.rules.proofs.Bools.{cond-case}
@@ -217,7 +217,7 @@ kept-at (f ∷ fs) a zero = a .0
 kept-at (f ∷ fs) a (suc k) = kept-at fs (a .1) k
 
 all-kept : AllKept operations
-unfolding grant transfer openEscrow release refund claim accept dispute sweep freeze caps
+unfolding grant transfer openEscrow release refund claim accept dispute sweep freeze caps close
 all-kept = (
   (λ s L. then (then (keeps-ensure _ L) (keeps-raise _ _ _ _)) (keeps-head GRANTED _ _ (omega arith) (omega arith) (λ e. absurd (omega arith)))),
   (
@@ -242,7 +242,10 @@ all-kept = (
                         (λ e. keeps-putWallet (walletRow L (s .target)) FROZEN (bit AUTO-OR-FREEZE (s .flags)) L)),
                     (
                       (λ s L. then (keeps-putWallet _ _ _ L) (keeps-putWallet _ _ _ _)),
-                      tt,
+                      (
+                        (λ s L. keeps-putWallet _ _ _ L),
+                        tt,
+                      ),
                     ),
                   ),
                 ),

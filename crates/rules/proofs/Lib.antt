@@ -4,6 +4,7 @@ pub mod Rows
 pub mod UpTo
 pub mod Counts
 pub mod Seek
+pub mod Wallets
 -- the named lists of tests, as facts by name
 pub mod Tests
 pub mod Formed
@@ -13,6 +14,7 @@ pub mod Le
 pub mod Codec
 -- credits, a good ledger, and the simulation of the books
 pub mod Accounts
+pub mod LookUp
 pub mod Moves
 pub mod Good
 pub mod Ends
@@ -40,6 +42,9 @@ pub mod GoodRows
 pub mod SoundStays
 pub mod SoundParts
 pub mod SoundAlways
+pub mod Shut
+pub mod ShutStays
+pub mod Closed
 pub mod Ready
 pub mod Books
 pub mod Window

@@ -20,7 +20,7 @@ use Rattle.rules.specs.Sound.{Ready}
 use Rattle.rules.specs.Refusals.{releasable, oneOf, closing}
 use Rattle.rules.specs.Settle.{Done, Sweep, sweepStart, sweptReceipts, swept, dueReceipt, dueEscrow, raise, lower, ensureWallet, endEscrow, closeReceipt, acceptRow}
 use Rattle.rules.specs.Settle.{closeDueReceipt, closeDueEscrow, sweepReceipt, sweepEscrow, escrowOf, operations, idle, operate, enter, settle}
-use Rattle.rules.specs.Settle.{grant, transfer, openEscrow, release, refund, claim, accept, dispute, sweep, freeze, caps}
+use Rattle.rules.specs.Settle.{grant, transfer, openEscrow, release, refund, claim, accept, dispute, sweep, freeze, caps, close}
 use Rattle.rules.specs.Submit.{answerOf, submit}
 use Rattle.rules.specs.declared.Submission.{Submission}
 use Rattle.rules.specs.declared.Read.{Read}
@@ -202,12 +202,12 @@ module _ (L : Ledger) (r : Read) (z : answerOf L r ≡ 0) (form : Formed (r .sub
   onward-freeze = cond-case (Onward L) (eqb (s .target) 0) _ _ (λ e. onward-tables refl refl) (λ e. onward-tables refl refl)
 
   pub onward-operate : Onward L (operate s L .after)
-  unfolding operate grant transfer release refund claim accept dispute sweep caps raise lower putWallet putHead newReceipt
+  unfolding operate grant transfer release refund claim accept dispute sweep caps close raise lower putWallet putHead newReceipt
   onward-operate =
       by-op (λ (o : ℕ). Onward L (getD operations (o - 1) idle s L .after)) (s .op) (form .low) (form .high) (λ e. onward-made _ refl refl)
       (λ e. onward-made _ refl refl) (λ e. onward-open s L wide) (λ e. onward-ended _ (ap (oneOf closing) e)) (λ e. onward-ended _ (ap (oneOf closing) e))
       (λ e. onward-tables refl refl) (λ e. closes-accept _ _ _ L wide .onward) (λ e. closes-receipt _ _ _ _ L .onward) (λ e. closes-swept _ L wide _ .onward)
-      (λ e. onward-freeze) (λ e. onward-tables refl refl)
+      (λ e. onward-freeze) (λ e. onward-tables refl refl) (λ e. onward-tables refl refl)
 
   pub onward-settle : Onward L (settle s L .after)
   unfolding settle enter newEntry putHead

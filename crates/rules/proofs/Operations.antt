@@ -13,7 +13,7 @@ use Rattle.rules.specs.Limits.{AUTO-OR-FREEZE, ESCROW-STATE, IS-OPEN}
 use Rattle.rules.specs.Table.{rowsIn}
 use Rattle.rules.specs.Ledger.{Edition, Ledger, head, escrow, walletCount, escrowCount, receiptCount, walletRow, putHead, putWallet, newEscrow, newReceipt}
 use Rattle.rules.specs.Record.{bit}
-use Rattle.rules.specs.Settle.{raise, lower, ensureWallet, grant, transfer, openEscrow, release, refund, claim, accept, dispute, sweep, freeze, caps}
+use Rattle.rules.specs.Settle.{raise, lower, ensureWallet, grant, transfer, openEscrow, release, refund, claim, accept, dispute, sweep, freeze, caps, close}
 use Rattle.rules.specs.History.{Said, Book, ends, closes, grants, transfers, opens-escrow, releases, refunds, makes-claim, accepts, disputes, sweeps-due}
 use Rattle.rules.specs.declared.Submission.{Submission}
 use Rattle.rules.proofs.Bools.{cond-case}
@@ -131,3 +131,7 @@ fits-freeze s L B f =
 pub fits-caps : (s : Submission) (L : Ledger) (B : Book) → Fits L B → Fits (caps s L .after) B
 unfolding caps
 fits-caps s L B f = fits-putWallet _ B _ DAILY-CAP _ (lit< tt) (lit< tt) (fits-putWallet L B _ TX-CAP _ (lit< tt) (lit< tt) f)
+
+pub fits-shut : (s : Submission) (L : Ledger) (B : Book) → Fits L B → Fits (close s L .after) B
+unfolding close
+fits-shut s L B f = fits-putWallet L B _ FROZEN _ (lit< tt) (lit< tt) f

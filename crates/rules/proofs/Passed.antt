@@ -10,11 +10,12 @@ use lib.Dec.{eqb, leb}
 use borrow.Author.Tests.{eqb-true, eqb-false, ne-eqb, ltb-true, ltb-false, leb-true, leb-false}
 use Rattle.rules.specs.Limits.{WALLET-LEN, RECEIPT-LEN, MAX-AMOUNT-MICRO, MAX-GRANTED-MICRO, MAX-SWEEP-ROWS, GRANTED, BALANCE, FROM, TO, ESCROW-STATE, ESCROW-DEADLINE, IS-OPEN}
 use Rattle.rules.specs.Limits.{ACCEPTANCE-DEADLINE, RECEIPT-STATE, PENDING}
-use Rattle.rules.specs.Limits.{GRANT, TRANSFER, OPEN, CLAIM, SWEEP}
+use Rattle.rules.specs.Limits.{GRANT, TRANSFER, OPEN, CLAIM, SWEEP, FREEZE, CAPS, CLOSE}
 use Rattle.rules.specs.Table.{rowsIn}
 use Rattle.rules.specs.Ledger.{Ledger, head, escrow, receipt, walletCount, escrowCount, receiptCount, walletRow, hasWallet, walletOf, written}
+use Rattle.rules.specs.Wallets.{isClosed}
 use Rattle.rules.specs.Sound.{between}
-use Rattle.rules.specs.Refusals.{refusals, entryRefusals, envelopeRefusals, operationRefusals, oneOf, on, paying, closing, replying, ofEscrow, releasable}
+use Rattle.rules.specs.Refusals.{refusals, entryRefusals, envelopeRefusals, operationRefusals, oneOf, on, paying, closing, signs, targets, replying, notEmpty, ofEscrow, releasable}
 use Rattle.rules.specs.Submit.{answerOf}
 use Rattle.rules.specs.declared.Submission.{Submission}
 use Rattle.rules.specs.declared.Read.{Read}
@@ -73,6 +74,32 @@ module _ (L : Ledger) (r : Read) (z : answerOf L r ≡ 0) where
   target-other t =
       eqb-false (s .target) (s .signer) (for-op s (TRANSFER ∷ OPEN ∷ CLAIM ∷ []) (eqb (s .target) (s .signer)) t
       (or-none-snd (on s (GRANT ∷ TRANSFER ∷ OPEN ∷ CLAIM ∷ []) (eqb (s .target) 0)) _ (passed L r z 15)))
+
+  -- 16
+  pub target-row : oneOf (CAPS ∷ CLOSE ∷ []) (s .op) ≡ true → walletRow L (s .target) < walletCount L
+  unfolding refusals entryRefusals envelopeRefusals operationRefusals
+  target-row t =
+      ltb-true _ _ (not-false-true _ (for-op s (CAPS ∷ CLOSE ∷ []) (not (hasWallet L (s .target))) t
+      (or-none-snd (on s (FREEZE ∷ []) (not (eqb (s .target) 0) && not (hasWallet L (s .target)))) _ (passed L r z 16))))
+
+  pub frozen-row : oneOf (FREEZE ∷ []) (s .op) ≡ true → s .target ≢ 0 → walletRow L (s .target) < walletCount L
+  unfolding refusals entryRefusals envelopeRefusals operationRefusals
+  frozen-row t ne =
+      ltb-true _ _ (not-false-true _ (there (not (eqb (s .target) 0)) (not (hasWallet L (s .target))) (ap not (ne-eqb (s .target) 0 ne))
+      (for-op s (FREEZE ∷ []) _ t (or-none-fst _ _ (passed L r z 16)))))
+
+  -- 43, 42
+  pub signer-live : oneOf signs (s .op) ≡ true → isClosed L (s .signer) ≡ false
+  unfolding refusals entryRefusals envelopeRefusals operationRefusals
+  signer-live t = for-op s signs (isClosed L (s .signer)) t (or-none-fst _ _ (passed L r z 43))
+
+  pub target-live : oneOf targets (s .op) ≡ true → isClosed L (s .target) ≡ false
+  unfolding refusals entryRefusals envelopeRefusals operationRefusals
+  target-live t = for-op s targets (isClosed L (s .target)) t (or-none-snd (on s signs (isClosed L (s .signer))) _ (passed L r z 43))
+
+  pub target-empty : oneOf (CLOSE ∷ []) (s .op) ≡ true → notEmpty L (s .target) ≡ false
+  unfolding refusals entryRefusals envelopeRefusals operationRefusals
+  target-empty t = for-op s (CLOSE ∷ []) (notEmpty L (s .target)) t (passed L r z 42)
 
   -- 27, 29
   pub escrow-written : oneOf closing (s .op) ≡ true → written (escrowCount L) (s .target) ≡ true

@@ -13,8 +13,8 @@ use Rattle.rules.specs.Submit.{submit}
 use Rattle.rules.specs.Replay.{Gone}
 use Rattle.rules.specs.Report.{Reported}
 use Rattle.rules.specs.Status.{statuses}
-use Rattle.rules.specs.Promises.{IsFirst, Refused}
-use Rattle.rules.specs.Results.{Pair, Looked, wallet-number, escrow-place, escrow-row, receipt-place, receipt-row, Result, by-fresh, by-submit, by-replay, by-report, by-lookup, by-read, by-write, by-status, Finds-as, Meets, Part-of, Finding, Listed, Decided, DecidedBy}
+use Rattle.rules.specs.Promises.{IsFirst, Refused, Stands}
+use Rattle.rules.specs.Results.{Pair, Looked, wallet-standing, escrow-place, escrow-row, receipt-place, receipt-row, Result, by-fresh, by-submit, by-replay, by-report, by-lookup, by-read, by-write, by-status, Finds-as, Meets, Part-of, Finding, Listed, Decided, DecidedBy}
 use Rattle.rules.specs.declared.Read.{Read}
 use Rattle.rules.specs.declared.Verdict.{Verdict}
 use Rattle.rules.proofs.Places.{place-within}
@@ -61,8 +61,8 @@ module _ (lent left : Ledger) (bytes : List ℕ) (number word : ℕ) (m : outcom
 -- ---- a lookup
 
 part-of : (e : Edition) (lent : Pair) (looked : Looked) → Finds-as e lent looked → Part-of e (lent .table) looked
-part-of e lent (wallet-number id number) m =
-    subst (λ (n : ℕ). n ≤ rowsIn WALLET-LEN (lent .table)) (sym m) (part-answers e (lent .header) (lent .table) id .2)
+part-of e lent (wallet-standing id standing) m =
+    subst (Stands (rowsIn WALLET-LEN (lent .table))) (sym m) (part-answers e (lent .header) (lent .table) id .2)
 part-of e lent (escrow-place number place) m =
     subst (λ (p : ℕ). p ≤ length (lent .table)) (sym m) (place-within (e .header) ESCROWS (e .escrow) MAX-ESCROWS (lent .header) (lent .table) number)
 part-of e lent (escrow-row number part) m =

@@ -14,7 +14,7 @@ use Rattle.rules.specs.Replay.{Gone, told, replay}
 use Rattle.rules.specs.Report.{Report, hasNamed, Reported, telling, report}
 use Rattle.rules.specs.History.{Call, starts-afresh, submits, Event, Said, saidOf, submitted, begun, after, said}
 use Rattle.rules.specs.Promises.{Lent, started, Adds-up}
-use Rattle.rules.specs.Results.{Pair, Looked, wallet-number, escrow-place, escrow-row, receipt-place, receipt-row, Result, by-fresh, by-submit, by-replay, by-report, by-lookup, by-read, by-write, by-status, Meets}
+use Rattle.rules.specs.Results.{Pair, Looked, wallet-standing, escrow-place, escrow-row, receipt-place, receipt-row, Result, by-fresh, by-submit, by-replay, by-report, by-lookup, by-read, by-write, by-status, Meets}
 use Rattle.rules.specs.Runs.{asked, setAsked, LentOf, leftBy, readIn, events, submittedBy, heardOf, Surface, Run, lastOf, heardBy, submittedIn, Calls-are-listed, Calls-decide, Runs-add-up, Runs-refuse-retries, Retries-change-nothing}
 use Rattle.rules.specs.declared.Verdict.{Verdict}
 use Rattle.rules.proofs.Bools.{cond-case}
@@ -49,7 +49,7 @@ pub record Did-as (r : Result) (L : Ledger) : Type 0 where
 
 -- a lookup leaves its slices, and so the ledger, whichever table it was lent
 same-table : (looked : Looked) (L : Ledger) → setAsked looked (asked looked L) L ≡ L
-same-table (wallet-number id number) L = refl
+same-table (wallet-standing id standing) L = refl
 same-table (escrow-place number place) L = refl
 same-table (escrow-row number part) L = refl
 same-table (receipt-place number place) L = refl

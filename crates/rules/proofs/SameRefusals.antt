@@ -1,15 +1,16 @@
 -- Two ledgers of the same header and written rows refuse the same submissions by the same numbers. A condition that looks at a row says first that
 -- the row is there; so both ledgers look at written rows, or neither looks. Conditions that look at no ledger are not named here.
-use mathlib.Core.Path.{_≡_, ap}
+use mathlib.Core.Path.{_≡_, ap, ap₂}
 use mathlib.Core.Bool.{Bool, not, _&&_, _||_}
 use Prim.Native.Nat.{ℕ, _+_, _-_, _≤_, _<_}
 use lib.Dec.{eqb, ltb, lit<}
 use borrow.Author.Tests.{ltb-true}
 use Rattle.rules.specs.Limits.{WALLET-LEN, RECEIPT-LEN}
-use Rattle.rules.specs.Limits.{BALANCE, FROZEN, TX-CAP, DAILY-CAP, FROM, TO, ESCROW-DEADLINE, ESCROW-STATE, REQUESTER, ACCEPTANCE-DEADLINE, RECEIPT-STATE, PENDING}
+use Rattle.rules.specs.Limits.{BALANCE, LOCKED, FROZEN, IS-FROZEN, IS-CLOSED, TX-CAP, DAILY-CAP, FROM, TO, ESCROW-DEADLINE, ESCROW-STATE, REQUESTER, ACCEPTANCE-DEADLINE, RECEIPT-STATE, IS-OPEN, PENDING}
 use Rattle.rules.specs.Limits.{SIGNER, NONCE, OPERATION, ENTRY-AMOUNT, SETTLED-AT, ADMIN}
-use Rattle.rules.specs.Ledger.{Ledger, receipt, escrowCount, receiptCount, walletOf, written}
-use Rattle.rules.specs.Refusals.{clear, seenIn, seen, countedOf, counted, sender, ofEscrow, ofReceipt, releasable}
+use Rattle.rules.specs.Ledger.{Ledger, receipt, walletCount, escrowCount, receiptCount, walletRow, hasWallet, walletOf, written}
+use Rattle.rules.specs.Wallets.{isClosed, openTo}
+use Rattle.rules.specs.Refusals.{clear, seenIn, seen, countedOf, counted, sender, ofEscrow, ofReceipt, releasable, notEmpty}
 use Rattle.rules.specs.Refusals.{entryRefusals, envelopeRefusals, operationRefusals, refusals}
 use Rattle.rules.specs.Submit.{answerOf}
 use Rattle.rules.specs.Same.{Same-written}
@@ -50,6 +51,22 @@ module _ (K L : Ledger) (a : Same-written K L) (wide : 8 ≤ L .edition .escrow)
       guarded (written (receiptCount K) n) (written (receiptCount L) n) _ _ (rw (a .header))
       (λ there. ap f (receipt-same K L a (n - 1) (written-row (receiptCount L) n there) k k<))
 
+  -- ---- a wallet by its id: whether it is closed, and whether it is empty
+
+  closed-same : (id : ℕ) → isClosed K id ≡ isClosed L id
+  closed-same id = guarded _ _ _ _ (has-same K L a id) (λ h. ap (λ x. eqb x IS-CLOSED) (of-same K L a id FROZEN (ltb-true _ _ h) (lit< tt)))
+
+  open-to-same : (id : ℕ) → openTo (K .edition .escrow) (K .escrows) (escrowCount K) id ≡ openTo (L .edition .escrow) (L .escrows) (escrowCount L) id
+  unfolding openTo
+  open-to-same id =
+      rw (a .header)
+      (some-ext _ _ _ (λ i h. let w = escrow-same K L a wide i h in ap₂ (λ x y. eqb x id && eqb y IS-OPEN) (w TO (lit< tt)) (w ESCROW-STATE (lit< tt))))
+
+  empty-same : (id : ℕ) → notEmpty K id ≡ notEmpty L id
+  empty-same id =
+      guarded _ _ _ _ (has-same K L a id)
+      (λ h. rw (of-same K L a id BALANCE (ltb-true _ _ h) (lit< tt), of-same K L a id LOCKED (ltb-true _ _ h) (lit< tt), open-to-same id))
+
   -- ---- the table
 
   entry-rows : (r : Read) → entryRefusals K r ≡ entryRefusals L r
@@ -65,7 +82,7 @@ module _ (K L : Ledger) (a : Same-written K L) (wide : 8 ≤ L .edition .escrow)
   operation-rows s =
       rw (
         counted-same (s .signer) (s .now),
-        sender-same s (λ x. eqb x 1) FROZEN (lit< tt),
+        sender-same s (λ x. eqb x IS-FROZEN) FROZEN (lit< tt),
         sender-same s (λ x. ltb x (s .amount)) BALANCE (lit< tt),
         sender-same s (λ x. ltb x (s .amount)) TX-CAP (lit< tt),
         sender-same s (λ x. ltb x (s .amount + counted L (s .signer) (s .now))) DAILY-CAP (lit< tt),
@@ -77,6 +94,9 @@ module _ (K L : Ledger) (a : Same-written K L) (wide : 8 ≤ L .edition .escrow)
         of-receipt-same (s .target) (λ x. not (eqb (s .signer) x)) REQUESTER (lit< tt),
         of-receipt-same (s .target) (λ x. not (eqb x PENDING)) RECEIPT-STATE (lit< tt),
         of-receipt-same (s .target) (λ x. ltb x (s .now)) ACCEPTANCE-DEADLINE (lit< tt),
+        closed-same (s .signer),
+        closed-same (s .target),
+        empty-same (s .target),
         has-same K L a (s .signer),
         has-same K L a (s .target),
         a .header,

@@ -17,7 +17,7 @@ use Rattle.rules.specs.Record.{readOf}
 use Rattle.rules.specs.Refusals.{releasable, oneOf, closing}
 use Rattle.rules.specs.Settle.{Done, done, Sweep, sweepStart, sweptReceipts, swept, dueReceipt, dueEscrow, raise, lower, ensureWallet, endEscrow}
 use Rattle.rules.specs.Settle.{closeReceipt, acceptRow, closeDueReceipt, closeDueEscrow, sweepReceipt, sweepEscrow, escrowOf, receiptOf, entryOf}
-use Rattle.rules.specs.Settle.{grant, transfer, openEscrow, release, refund, claim, accept, dispute, sweep, freeze, caps, operations, idle, operate, enter, settle}
+use Rattle.rules.specs.Settle.{grant, transfer, openEscrow, release, refund, claim, accept, dispute, sweep, freeze, caps, close, operations, idle, operate, enter, settle}
 use Rattle.rules.specs.Submit.{answerOf, submit}
 use Rattle.rules.specs.Same.{Same-written, Same-outcome}
 use Rattle.rules.specs.Agreement.{Same-answers}
@@ -169,6 +169,10 @@ module _ (K L : Ledger) (a : Same-written K L) (whole : L .edition .escrow ≡ E
     after = rw (row-same K L a (s .target)) (same-putWallet _ _ (same-putWallet K L a _ TX-CAP _ _ (λ h. refl)) _ DAILY-CAP _ _ (λ h. refl));
   }
 
+  same-shut : Same-done (close s K) (close s L)
+  unfolding close
+  same-shut = record { word = refl; after = rw (row-same K L a (s .target)) (same-putWallet K L a _ FROZEN _ _ (λ h. refl)) }
+
   same-closing : oneOf closing (s .op) ≡ true → (state : ℕ)
       → Same-done (done 0 (endEscrow state (s .now) (s .signer) (s .target - 1) K)) (done 0 (endEscrow state (s .now) (s .signer) (s .target - 1) L))
   same-closing t state = record { word = refl; after = same-end K L a (omega arith) state (s .now) (s .signer) (s .target - 1) (escrow-row L r z t) }
@@ -182,7 +186,7 @@ module _ (K L : Ledger) (a : Same-written K L) (whole : L .edition .escrow ≡ E
       (λ e. same-accept K L a good-L (s .now) (s .signer) (s .target - 1) (form .now-right) (receipt-row L r z (ap (oneOf (ACCEPT ∷ DISPUTE ∷ [])) e)))
       (λ e. record { word = refl; after = same-close K L a DISPUTED (s .now) (s .signer) (s .target - 1) })
       (λ e. let x = same-swept L (s .now) (form .now-right) K a good-L (s .amount) in record { word = x .closed; after = x .tables })
-      (λ e. same-freeze) (λ e. same-caps)
+      (λ e. same-freeze) (λ e. same-caps) (λ e. same-shut)
 
   same-settle : Same-done (settle s K) (settle s L)
   unfolding settle enter

@@ -7,7 +7,7 @@ use native.Mathlib.Omega.{arith}
 use lib.Dec.{eqb}
 use borrow.Author.Tests.{eqb-false, eq-eqb, ne-eqb, lt-ltb, le-leb}
 use Rattle.rules.specs.Limits.{JOURNAL-LEN, LAST-TIME-MS, MAX-AMOUNT-MICRO, MAX-GRANTED-MICRO}
-use Rattle.rules.specs.Limits.{EDITION, SYSTEM-FROZEN, CLOCK, GRANTED, ID, LOCKED, FROZEN}
+use Rattle.rules.specs.Limits.{EDITION, SYSTEM-FROZEN, CLOCK, GRANTED, ID, LOCKED, FROZEN, IS-CLOSED}
 use Rattle.rules.specs.Limits.{FROM, TO, ESCROW-AMOUNT, ESCROW-DEADLINE, ESCROW-STATE, OPENED-AT, ESCROW-CLOSED-AT}
 use Rattle.rules.specs.Limits.{PROVIDER, REQUESTER, RECEIPT-LINK, ACCEPTANCE-DEADLINE, AUTO-ACCEPT, RECEIPT-STATE, CLAIMED-AT, RECEIPT-CLOSED-AT}
 use Rattle.rules.specs.Table.{rowsIn, all, sum}
@@ -41,7 +41,7 @@ module _ (L : Ledger) (g : Good L) where
   wallet-again : (i : ℕ) → i < walletCount L → all (walletTests L i) ≡ true
   wallet-again i l =
       let r = g .wallet-rows i l in
-      and-intro _ _ (ap not (ne-eqb (wallet L i ID) 0 (omega (arith, r .id)))) (le-leb (wallet L i FROZEN) 1 (r .frozen))
+      and-intro _ _ (ap not (ne-eqb (wallet L i ID) 0 (omega (arith, r .id)))) (le-leb (wallet L i FROZEN) IS-CLOSED (r .frozen))
 
   locked-again : (i : ℕ) → i < walletCount L → eqb (wallet L i LOCKED) (sum (escrowCount L) (heldIn L (wallet L i ID))) ≡ true
   unfolding heldIn

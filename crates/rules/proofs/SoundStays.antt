@@ -9,14 +9,14 @@ use lib.ListN.{getD, length}
 use lib.Seq.{getD-set-same, getD-set-other}
 use lib.Dec.{eqb, lit<, lit≤}
 use borrow.Author.Tests.{eqb-true, eqb-false}
-use Rattle.rules.specs.Limits.{WALLET-LEN, SYSTEM-FROZEN, GRANTED, WALLETS, ESCROWS, RECEIPTS, BALANCE, LOCKED, FROZEN, TX-CAP, DAILY-CAP}
+use Rattle.rules.specs.Limits.{WALLET-LEN, SYSTEM-FROZEN, GRANTED, WALLETS, ESCROWS, RECEIPTS, BALANCE, LOCKED, FROZEN, TX-CAP, DAILY-CAP, IS-CLOSED}
 use Rattle.rules.specs.Limits.{IS-OPEN, RELEASED, REFUNDED, PENDING, DISPUTED, AUTO-OR-FREEZE}
 use Rattle.rules.specs.Limits.{GRANT, TRANSFER, OPEN, CLAIM, ACCEPT, DISPUTE}
 use Rattle.rules.specs.Table.{put, rowsIn}
 use Rattle.rules.specs.Ledger.{Edition, Ledger, head, walletCount, escrowCount, receiptCount, walletRow, putHead, putWallet, newEscrow, newReceipt}
 use Rattle.rules.specs.Record.{bit}
 use Rattle.rules.specs.Refusals.{oneOf, paying, closing}
-use Rattle.rules.specs.Settle.{raise, lower, ensureWallet, endEscrow, operations, idle, operate, grant, transfer, openEscrow, release, refund, claim, accept, dispute, sweep, freeze, caps}
+use Rattle.rules.specs.Settle.{raise, lower, ensureWallet, endEscrow, operations, idle, operate, grant, transfer, openEscrow, release, refund, claim, accept, dispute, sweep, freeze, caps, close}
 use Rattle.rules.specs.Submit.{answerOf}
 use Rattle.rules.specs.declared.Submission.{Submission}
 use Rattle.rules.specs.declared.Read.{Read}
@@ -48,7 +48,7 @@ good-head k v L nw g ne nr good =
     (getD-set-other (L .header) k GRANTED v 0 g) (getD-set-other (L .header) k ESCROWS v 0 ne) (getD-set-other (L .header) k RECEIPTS v 0 nr) good
 
 -- a word of a wallet behind its credits: frozen, and the caps
-good-word : (i c x : ℕ) (L : Ledger) → LOCKED < c → c < WALLET-LEN → (FROZEN ≡ c → x ≤ 1) → Good L → Good (putWallet i c x L)
+good-word : (i c x : ℕ) (L : Ledger) → LOCKED < c → c < WALLET-LEN → (FROZEN ≡ c → x ≤ IS-CLOSED) → Good L → Good (putWallet i c x L)
 unfolding putWallet
 good-word i c x L low high flag good =
     moved-tables (L .wallets) (walletCount L) (head L GRANTED) (L .escrows) (L .edition .escrow) (escrowCount L) (L .receipts) (receiptCount L)
@@ -160,6 +160,10 @@ module _ (L : Ledger) (r : Read) (z : answerOf L r ≡ 0) (form : Formed (r .sub
       good-word i DAILY-CAP (s .link) (putWallet i TX-CAP (s .amount) L) (lit< tt) (lit< tt) (λ q. absurd (omega arith))
       (good-word i TX-CAP (s .amount) L (lit< tt) (lit< tt) (λ q. absurd (omega arith)) good-L)
 
+  good-close : Good (close s L .after)
+  unfolding close
+  good-close = good-word (walletRow L (s .target)) FROZEN IS-CLOSED L (lit< tt) (lit< tt) (λ q. lit≤ tt) good-L
+
   good-end : oneOf closing (s .op) ≡ true → (state : ℕ) → eqb state IS-OPEN ≡ false → (1 ≤ state) × (state ≤ 4) → Good (endEscrow state (s .now) (s .signer) (s .target - 1) L)
   good-end t state c st = kept-end L good-L (s .target - 1) (escrow-row L r z t) (escrow-open L r z t) state (s .now) (s .signer) c st (form .now-right) .good
 
@@ -170,4 +174,4 @@ module _ (L : Ledger) (r : Read) (z : answerOf L r ≡ 0) (form : Formed (r .sub
       (λ e. good-end (ap (oneOf closing) e) RELEASED refl (lit≤ tt, lit≤ tt)) (λ e. good-end (ap (oneOf closing) e) REFUNDED refl (lit≤ tt, lit≤ tt)) good-claim
       (λ e. kept-accept L good-L (s .target - 1) (receipt-row L r z (ap (oneOf (ACCEPT ∷ DISPUTE ∷ [])) e)) (s .now) (s .signer) (form .now-right) .good)
       (λ e. kept-close L good-L (s .target - 1) DISPUTED (s .now) (s .signer) (lit≤ tt, lit≤ tt) (form .now-right) .good)
-      (λ e. kept-sweep L (s .now) (form .now-right) good-L (s .amount) .good) (λ e. good-freeze) (λ e. good-caps)
+      (λ e. kept-sweep L (s .now) (form .now-right) good-L (s .amount) .good) (λ e. good-freeze) (λ e. good-caps) (λ e. good-close)

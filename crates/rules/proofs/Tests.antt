@@ -12,7 +12,7 @@ use lib.Dec.{eqb, ltb, leb}
 use borrow.Author.Tests.{eqb-true, eqb-false, ltb-true, leb-true, not-true}
 use Rattle.rules.specs.Limits.{HEADER-LEN, WALLET-LEN, RECEIPT-LEN, JOURNAL-LEN, MAX-WALLETS, MAX-ESCROWS, MAX-RECEIPTS, MAX-ENTRIES}
 use Rattle.rules.specs.Limits.{LAST-TIME-MS, MAX-AMOUNT-MICRO, MAX-GRANTED-MICRO, TRANSFER, OPEN}
-use Rattle.rules.specs.Limits.{EDITION, SYSTEM-FROZEN, CLOCK, GRANTED, ID, LOCKED, FROZEN}
+use Rattle.rules.specs.Limits.{EDITION, SYSTEM-FROZEN, CLOCK, GRANTED, ID, LOCKED, FROZEN, IS-CLOSED}
 use Rattle.rules.specs.Limits.{FROM, TO, ESCROW-AMOUNT, ESCROW-DEADLINE, ESCROW-STATE, OPENED-AT, ESCROW-CLOSED-AT}
 use Rattle.rules.specs.Limits.{ACCEPTANCE-DEADLINE, AUTO-ACCEPT, RECEIPT-STATE, CLAIMED-AT, RECEIPT-CLOSED-AT, OPERATION, ENTRY-AMOUNT, SETTLED-AT}
 use Rattle.rules.specs.Table.{word, rowsIn, tableRight, all, distinct, sum}
@@ -109,7 +109,7 @@ State x = (1 ≤ x) × (x ≤ 4)
 
 pub record WRow (t : List ℕ) (i : ℕ) : Type 0 where
   pub id : 0 < word t WALLET-LEN i ID
-  pub frozen : word t WALLET-LEN i FROZEN ≤ 1
+  pub frozen : word t WALLET-LEN i FROZEN ≤ IS-CLOSED
 
 pub wallet-says : (L : Ledger) (i : ℕ) → all (walletTests L i) ≡ true → WRow (L .wallets) i
 wallet-says L i h =

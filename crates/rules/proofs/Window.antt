@@ -136,6 +136,7 @@ module _ (L : Ledger) (r : Read) (B : Book) (f : Fits L B) (z : answerOf L r ≡
       (λ e. timed-sweeps _ _ B t)
       (λ e. t)
       (λ e. t)
+      (λ e. t)
 
 timed-blank : TimedOf blank
 timed-blank = record { linked = λ i h. omega arith; in-time = λ i h. absurd (omega (arith, h)) }

@@ -10,7 +10,7 @@ use Rattle.rules.specs.Limits.{ESCROW-LEN, MAX-ESCROWS, RECEIPT-LINK, OP
 use Rattle.rules.specs.Ledger.{Ledger, Outcome, receipt, escrowCount}
 use Rattle.rules.specs.Record.{readOf}
 use Rattle.rules.specs.Refusals.{oneOf, releasable}
-use Rattle.rules.specs.Settle.{Done, acceptRow, grant, transfer, openEscrow, release, refund, claim, accept, dispute, sweep, freeze, caps, operations, idle, operate, settle}
+use Rattle.rules.specs.Settle.{Done, acceptRow, grant, transfer, openEscrow, release, refund, claim, accept, dispute, sweep, freeze, caps, close, operations, idle, operate, settle}
 use Rattle.rules.specs.Submit.{answerOf, submit}
 use Rattle.rules.specs.Replay.{recordedFrom}
 use Rattle.rules.specs.Agreement.{Words-are-small, AllWhole, AllRecords}
@@ -55,11 +55,11 @@ module _ (L : Ledger) (wide : ESCROW-LEN ≤ L .edition .escrow) (r : Read) (z :
   sweep-word e = omega (arith, sweep-counts (s .now) (s .amount) L wide, limit-high L r z (ap (oneOf (SWEEP ∷ [])) e))
 
   settle-word : settle s L .word ≤ MAX-ESCROWS
-  unfolding settle operate grant transfer release refund dispute freeze caps
+  unfolding settle operate grant transfer release refund dispute freeze caps close
   settle-word =
       by-op (λ (o : ℕ). getD operations (o - 1) idle s L .word ≤ MAX-ESCROWS) (s .op) (form .low) (form .high)
       (λ e. omega arith) (λ e. omega arith) open-word (λ e. omega arith) (λ e. omega arith) claim-word accept-word (λ e. omega arith) sweep-word
-      (λ e. omega arith) (λ e. omega arith)
+      (λ e. omega arith) (λ e. omega arith) (λ e. omega arith)
 
 pub words-are-small : Words-are-small
 words-are-small L wide b =

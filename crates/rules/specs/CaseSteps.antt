@@ -1,13 +1,15 @@
 -- The steps of the checked cases by name: those of P1 to P12, and behind them those of each change request.
-use mathlib.Core.List.{List, [], _∷_}
+use mathlib.Core.List.{List, [], _∷_, _++_}
 use Prim.Native.Nat.{ℕ, _+_}
 use lib.ListN.{set, replicate}
-use Rattle.rules.specs.Limits.{GRANT, TRANSFER, OPEN, RELEASE, REFUND, CLAIM, ACCEPT, DISPUTE, SWEEP, CAPS, ALL-AGREE, FIGURES}
+use Rattle.rules.specs.Limits.{GRANT, TRANSFER, OPEN, RELEASE, REFUND, CLAIM, ACCEPT, DISPUTE, SWEEP, FREEZE, CAPS, CLOSE, ALL-AGREE, FIGURES}
+use Rattle.rules.specs.Limits.{DEFAULT-TX-CAP-MICRO, DEFAULT-DAILY-CAP-MICRO}
+use Rattle.rules.specs.Ledger.{Ledger, ledger}
 use Rattle.rules.specs.Record.{encode}
 use Rattle.rules.specs.Recording.{Entry, asEntry}
 use Rattle.rules.specs.Replay.{answer, verdict}
 use Rattle.rules.specs.Report.{Report, reportOf, blank-report}
-use Rattle.rules.specs.Trials.{Step, Counted, sub, step, leaves, has, withCells}
+use Rattle.rules.specs.Trials.{Step, Counted, ODD-WORD, tables, sub, step, leaves, has, withCells}
 use Rattle.rules.specs.declared.Submission.{Submission}
 use Rattle.rules.specs.declared.Verdict.{Verdict}
 
@@ -162,3 +164,42 @@ disputes-at now signer nonce number = sub DISPUTE 0b1001 now signer nonce now (n
 
 abbrev pub disputes-bare : ℕ → ℕ → ℕ → ℕ → Submission
 disputes-bare now signer nonce number = sub DISPUTE 0b0001 now signer nonce now (now + 1_000) number 0 0 0
+
+-- ---- Request 6: closed wallets
+
+-- an admin, 1, closes a wallet at a time; at 1,000; and wallet 7 at 1,000, with these flags
+abbrev pub closes-at : ℕ → ℕ → ℕ → Submission
+closes-at now nonce target = sub CLOSE 0b0011 now 1 nonce now (now + 1_000) target 0 0 0
+
+abbrev pub closes : ℕ → ℕ → Submission
+closes nonce target = closes-at 1_000 nonce target
+
+abbrev pub closes-with : ℕ → Submission
+closes-with flags = sub CLOSE flags 1_000 1 2 1_000 2_000 7 0 0 0
+
+-- behind P1: 7 pays all that it has to 8, and is closed
+abbrev pub emptied : Step
+emptied = leaves (transfers 50_000_000) 0 0 (has 7 0 0 ∷ has 8 50_000_000 0 ∷ [])
+
+abbrev pub shut-7 : Step
+shut-7 = leaves (closes 2 7) 0 0 (has 7 0 0 ∷ has 8 50_000_000 0 ∷ [])
+
+-- at 1,000: a payment, a claim without a link, and an admin's freeze or unfreeze, by its flags
+abbrev pub pays-by : ℕ → ℕ → ℕ → ℕ → Submission
+pays-by signer nonce target amount = sub TRANSFER 0b0001 1_000 signer nonce 1_000 2_000 target amount 0 0
+
+abbrev pub claims-by : ℕ → ℕ → ℕ → Submission
+claims-by signer nonce target = sub CLAIM 0b0001 1_000 signer nonce 1_000 2_000 target 0 400_000 0
+
+abbrev pub freezes : ℕ → ℕ → ℕ → Submission
+freezes flags nonce target = sub FREEZE flags 1_000 1 nonce 1_000 2_000 target 0 0 0
+
+-- the tables after P1, `emptied` and `shut-7`: two wallets, the first with 2 for its frozen word, and three journal rows
+abbrev pub shut-tables : Ledger
+shut-tables =
+    ledger (1 ∷ 0 ∷ 1_000 ∷ 50_000_000 ∷ 2 ∷ 0 ∷ 0 ∷ 3 ∷ [])
+    ((7 ∷ 0 ∷ 0 ∷ 2 ∷ DEFAULT-TX-CAP-MICRO ∷ DEFAULT-DAILY-CAP-MICRO ∷ 8 ∷ 50_000_000 ∷ 0 ∷ 0 ∷ DEFAULT-TX-CAP-MICRO ∷ DEFAULT-DAILY-CAP-MICRO ∷ [])
+    ++ replicate 12 ODD-WORD)
+    (tables .escrows) (tables .receipts)
+    ((1 ∷ 1 ∷ GRANT ∷ 7 ∷ 50_000_000 ∷ 1_000 ∷ 0 ∷ 0 ∷ 7 ∷ 5 ∷ TRANSFER ∷ 8 ∷ 50_000_000 ∷ 1_000 ∷ 0 ∷ 0 ∷ 1 ∷ 2 ∷ CLOSE ∷ 7 ∷ 0 ∷ 1_000 ∷ 0 ∷ 0 ∷ [])
+    ++ replicate 40 ODD-WORD)

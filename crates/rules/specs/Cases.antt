@@ -12,6 +12,7 @@ use Rattle.rules.specs.Trials.{replays, reports, Case, ODD-WORD, tables,
 use Rattle.rules.specs.CaseSteps.{P1, opening, P2, P3, releases, P4, transfers, enveloped, opens, claims, accepts, sweeps, all-agree, capped, grants-8, holds-by, DAY-ENDS-MS, DAY-OVER-MS, transfers-1, opens-1}
 use Rattle.rules.specs.CaseSteps.{sent, unmarked, bare, refunds-2000, releases-2000, sweeps-at, claims-auto, brought, NONE-YET, NOTHING-NAMED, pays-1, again, grants-1}
 use Rattle.rules.specs.CaseSteps.{WINDOW-ENDS-MS, WINDOW-OVER-MS, TWO-DAYS-LATE-MS, accepts-at, disputes-at, disputes-bare}
+use Rattle.rules.specs.CaseSteps.{closes-at, closes, closes-with, emptied, shut-7, pays-by, claims-by, freezes, shut-tables}
 
 -- THE TABLE
 abbrev pub cases : List Case
@@ -106,7 +107,7 @@ cases =
     (counted 1 0 2 ∷ counted 3 0 2 ∷ counted 4 0 1 ∷ []) (100_000_000 ∷ 0 ∷ 20_000_000 ∷ 0 ∷ 0 ∷ []) NOTHING-NAMED
     -- malformed: a wrong mark with an operation's byte, a grant's amount too; and bytes that are no operation's
     ∷ reported-from 305 blank-report
-    (added (unmarked (P1 .submission) ∷ unmarked opening ∷ unmarked (bare 11) ∷ sent (bare 0) ∷ sent (bare 12) ∷ []) 5 [] ∷ [])
+    (added (unmarked (P1 .submission) ∷ unmarked opening ∷ unmarked (bare 11) ∷ sent (bare 0) ∷ sent (bare 13) ∷ []) 5 [] ∷ [])
     (counted 1 3 1 ∷ counted 3 3 1 ∷ counted 11 3 1 ∷ counted 0 3 2 ∷ []) NONE-YET NOTHING-NAMED
     -- transferred by a transfer that settled, refunded by a refund, released by a release, expired by a sweep
     ∷ reported-from 306 blank-report
@@ -215,9 +216,50 @@ cases =
       codes = record { number = 1; code = 0 } ∷ record { number = 2; code = 29 } ∷ [];
     }
     ∷ [])
-    -- the report's last column
+    -- the report's column 41
     ∷ reported-from 508 blank-report
     (added (entry P1 ∷ entry P2 ∷ sent (claims 1) ∷ sent (accepts-at WINDOW-OVER-MS 7 2 1) ∷ sent (disputes-at WINDOW-OVER-MS 7 2 1) ∷ []) 5
     (has 7 30_000_000 20_000_000 ∷ []) ∷ [])
     (counted 1 0 1 ∷ counted 3 0 1 ∷ counted 6 0 1 ∷ counted 7 41 1 ∷ counted 8 41 1 ∷ []) (50_000_000 ∷ 0 ∷ 0 ∷ 0 ∷ 0 ∷ []) NOTHING-NAMED
+    -- an empty wallet is closed, and whatever names it is refused then: a grant, a payment and a hold to it, a payment and a hold by it, a claim by it and
+    -- one against it, freeze, unfreeze, caps, a second close
+    ∷ case 601
+    (P1 ∷ emptied ∷ shut-7 ∷ grants-1 1 9 43 ∷ step (pays-by 8 9 7 1) 43 0 ∷ step (holds-by 8 9 7 1) 43 0 ∷ pays-1 9 43 ∷ step (holds-by 7 9 8 1) 43 0
+    ∷ step (claims-by 7 9 8) 43 0 ∷ step (claims-by 8 9 7) 43 0 ∷ step (freezes 0b0111 9 7) 43 0 ∷ step (freezes 0b0011 9 7) 43 0
+    ∷ step (capped 3 .submission) 43 0 ∷ leaves (closes 9 7) 43 0 (has 7 0 0 ∷ has 8 50_000_000 0 ∷ []) ∷ [])
+    -- 11, 12, 13 and 15 stand before 43: the close's retry; a closed wallet pays 0; 9, that has no wallet, pays it; it pays and claims on itself. 17 and
+    -- 22 stand behind: 8 pays it more than it has, and 9 claims on it
+    ∷ case 602
+    (P1 ∷ emptied ∷ shut-7 ∷ again shut-7 ∷ step (pays-by 7 9 8 0) 12 0 ∷ step (pays-by 9 9 7 1) 13 0 ∷ step (pays-by 7 9 7 1) 15 0
+    ∷ step (claims-by 7 9 7) 15 0 ∷ step (pays-by 8 9 7 50_000_001) 43 0 ∷ step (claims-by 9 9 7) 43 0 ∷ [])
+    -- a frozen wallet may be closed, and while the system is frozen; then it is frozen no longer, and the system is no closed wallet
+    ∷ case 603
+    (P1 ∷ emptied ∷ step (freezes 0b0111 3 7) 0 0 ∷ pays-1 9 14 ∷ step (freezes 0b0111 4 0) 0 0 ∷ pays-1 9 5 ∷ shut-7
+    ∷ step (freezes 0b0011 5 0) 0 0 ∷ pays-1 9 43 ∷ [])
+    -- a wallet with balance; with locked credits and nothing else; with an open escrow to it and nothing else. Once that is released, the first closes, and
+    -- the other has balance
+    ∷ case 604
+    (P1 ∷ step (closes 2 7) 42 0 ∷ leaves (holds-by 7 2 8 50_000_000) 0 1 (has 7 0 50_000_000 ∷ has 8 0 0 ∷ []) ∷ step (closes 2 7) 42 0
+    ∷ step (closes 2 8) 42 0 ∷ step (releases-2000 3 1) 0 0 ∷ step (closes-at 2_000 2 7) 0 0 ∷ step (closes-at 2_000 3 8) 42 0 ∷ [])
+    -- an open escrow to it, until it is refunded, whatever goes to another wallet; and a stale one, which is open until a sweep returns it
+    ∷ case 605
+    (P1 ∷ P2 ∷ step (holds-by 7 2 9 1_000_000) 0 2 ∷ step (closes 2 9) 42 0 ∷ step (refunds-2000 3 2) 0 0 ∷ step (closes-at 2_000 2 9) 0 0
+    ∷ step (closes-at 501_001 3 8) 42 0 ∷ step (sweeps-at 501_001 1) 0 1 ∷ step (closes-at 501_001 3 8) 0 0 ∷ [])
+    -- no target; a wallet that there is not; no signature; no admin; bit 2, and bit 3
+    ∷ case 606
+    (P1 ∷ step (closes 2 0) 16 0 ∷ step (closes 2 9) 16 0 ∷ step (closes-with 0b0010) 6 0 ∷ step (closes-with 0b0001) 7 0 ∷ step (closes-with 0b0111) 3 0
+    ∷ step (closes-with 0b1011) 3 0 ∷ [])
+    -- a closed wallet's id still signs an admin's grant and its reply to a claim
+    ∷ case 607 (P1 ∷ emptied ∷ step (claims-by 8 1 7) 0 1 ∷ shut-7 ∷ grants-8 7 ∷ step (accepts-at 1_000 7 9 1) 0 0 ∷ [])
+    -- an admin closes its own wallet, 1, and still signs; and receipt 1 is no wallet
+    ∷ case 608
+    (P1 ∷ step (pays-by 7 2 1 1) 0 0 ∷ step (pays-by 1 2 8 1) 0 0 ∷ step (closes 4 1) 0 0 ∷ grants-8 1 ∷ step (holds-by 7 3 8 1_000_000) 0 1
+    ∷ step (claims 1) 0 1 ∷ step (accepts 4 1) 0 1 ∷ [])
+    -- the report's last row and its last two columns; and the tables left: the close set one word and added one journal row, and no second wallet 7 was made
+    ∷ reported-from 609 blank-report
+    (added-leaving
+    (entry P1 ∷ entry emptied ∷ sent (closes 3 8) ∷ entry shut-7 ∷ sent (closes 3 7) ∷ sent (closes-with 0b0111) ∷ entry (grants-1 1 9 43)
+    ∷ entry (pays-1 9 43) ∷ []) 0 8 shut-tables ∷ [])
+    (counted 1 0 1 ∷ counted 2 0 1 ∷ counted 12 42 1 ∷ counted 12 0 1 ∷ counted 12 43 1 ∷ counted 12 3 1 ∷ counted 1 43 1 ∷ counted 2 43 1 ∷ [])
+    (50_000_000 ∷ 50_000_000 ∷ 0 ∷ 0 ∷ 0 ∷ []) NOTHING-NAMED
     ∷ []

@@ -272,7 +272,7 @@ says-nothing e B = B
 -- by the operations' numbers, from 1 on
 abbrev pub sayings : List (Said → Book → Book)
 sayings =
-    grants ∷ transfers ∷ opens-escrow ∷ releases ∷ refunds ∷ makes-claim ∷ accepts ∷ disputes ∷ sweeps-due ∷ says-nothing ∷ says-nothing ∷ []
+    grants ∷ transfers ∷ opens-escrow ∷ releases ∷ refunds ∷ makes-claim ∷ accepts ∷ disputes ∷ sweeps-due ∷ says-nothing ∷ says-nothing ∷ says-nothing ∷ []
 
 -- a refused submission says nothing
 unfoldable pub enters : Said → Book → Book

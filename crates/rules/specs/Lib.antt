@@ -2,6 +2,7 @@
 pub mod Limits
 pub mod Table
 pub mod Ledger
+pub mod Wallets
 pub mod Moments
 pub mod Record
 pub mod Sound
@@ -21,6 +22,7 @@ pub mod Agreement
 pub mod Month
 pub mod Cap
 pub mod Window
+pub mod Closed
 pub mod Results
 pub mod Runs
 pub mod Trials

@@ -184,6 +184,23 @@ TX-CAP = 4
 abbrev pub DAILY-CAP : ℕ
 DAILY-CAP = 5
 
+-- what a wallet's frozen word says, if it isn't 0
+abbrev pub IS-FROZEN : ℕ
+IS-FROZEN = 1
+
+abbrev pub IS-CLOSED : ℕ
+IS-CLOSED = 2
+
+-- what looking up a wallet finds, in numbers
+abbrev pub WALLET-MISSING : ℕ
+WALLET-MISSING = 0
+
+abbrev pub WALLET-LIVE : ℕ
+WALLET-LIVE = 1
+
+abbrev pub WALLET-CLOSED : ℕ
+WALLET-CLOSED = 2
+
 -- words of an escrow
 abbrev pub FROM : ℕ
 FROM = 0
@@ -299,16 +316,19 @@ FREEZE = 10
 abbrev pub CAPS : ℕ
 CAPS = 11
 
+abbrev pub CLOSE : ℕ
+CLOSE = 12
+
 -- the last of them, and the report's rows: row 0, and one for every operation
 abbrev pub LAST-OPERATION : ℕ
-LAST-OPERATION = CAPS
+LAST-OPERATION = CLOSE
 
 abbrev pub GRID-ROWS : ℕ
 GRID-ROWS = LAST-OPERATION + 1
 
 -- the last answer, and how many there are: the statuses, and the report's columns
 abbrev pub LAST-ANSWER : ℕ
-LAST-ANSWER = 41
+LAST-ANSWER = 43
 
 abbrev pub ANSWERS : ℕ
 ANSWERS = LAST-ANSWER + 1

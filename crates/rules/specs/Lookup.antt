@@ -1,12 +1,16 @@
--- Section "Row lookups": that very row of the caller's table, or an empty part; the search for a wallet.
+-- Section "Row lookups": that very row of the caller's table, or an empty part; the search for a wallet, which document 02, request 6, asks to tell
+-- a closed one from a missing and a live one.
 use mathlib.Core.List.{List}
 use mathlib.Core.Bool.{Bool, not, cond, _&&_}
-use Prim.Native.Nat.{ℕ, _+_, _-_, _*_}
+use Prim.Native.Nat.{ℕ, _-_, _*_}
 use lib.ListN.{getD, length, take, drop}
-use lib.Dec.{eqb, ltb, leb}
+use lib.Dec.{eqb, leb}
 use Rattle.rules.specs.Limits.{WALLET-LEN, RECEIPT-LEN, MAX-WALLETS, MAX-ESCROWS, MAX-RECEIPTS, WALLETS, ESCROWS, RECEIPTS}
 use Rattle.rules.specs.Table.{rowsIn, tableRight}
-use Rattle.rules.specs.Ledger.{Edition, rowOf, written}
+use Rattle.rules.specs.Ledger.{Edition, written}
+use Rattle.rules.specs.Wallets.{lookUp}
+use Rattle.rules.specs.declared.WalletState.{WalletState}
+use Rattle.rules.specs.declared.WalletState.the-variants.{Missing}
 
 -- the header and the table have right lengths, and the count in the header's word c is within the table
 abbrev pub countRight : ℕ → ℕ → ℕ → ℕ → List ℕ → List ℕ → Bool
@@ -34,9 +38,8 @@ escrowPart e header escrows number = partAt (e .escrow) escrows (escrowPlace e h
 abbrev pub receiptPart : Edition → List ℕ → List ℕ → ℕ → List ℕ
 receiptPart e header receipts number = partAt RECEIPT-LEN receipts (receiptPlace e header receipts number)
 
--- the number of the first written row with the id; 0 if there is none, the id is 0, or a length or the count is wrong
-unfoldable pub walletNumber : Edition → List ℕ → List ℕ → ℕ → ℕ
-walletNumber e header wallets id =
-    let n = getD header WALLETS 0 in
-    cond (countRight (e .header) WALLETS WALLET-LEN MAX-WALLETS header wallets && (not (eqb id 0) && ltb (rowOf wallets n id) n))
-    (rowOf wallets n id + 1) 0
+-- the wallet of id; missing too where the id is 0, or a length or the count is wrong
+unfoldable pub walletState : Edition → List ℕ → List ℕ → ℕ → WalletState
+walletState e header wallets id =
+    cond (countRight (e .header) WALLETS WALLET-LEN MAX-WALLETS header wallets && not (eqb id 0))
+    (lookUp wallets (getD header WALLETS 0) id) Missing

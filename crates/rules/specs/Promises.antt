@@ -5,7 +5,7 @@ use mathlib.Core.List.{List, [], _∷_, _++_}
 use mathlib.Core.Bool.{Bool, true, false, not, _&&_}
 use Prim.Native.Nat.{ℕ, _+_, _≤_, _<_, _^_, min}
 use lib.ListN.{getD, length, replicate}
-use Rattle.rules.specs.Limits.{HEADER-LEN, WALLET-LEN, ESCROW-LEN, RECEIPT-LEN, JOURNAL-LEN, RECORD-BYTES, ID, BALANCE, LOCKED, SWEEP, LAST-ANSWER}
+use Rattle.rules.specs.Limits.{HEADER-LEN, WALLET-LEN, ESCROW-LEN, RECEIPT-LEN, JOURNAL-LEN, RECORD-BYTES, ID, BALANCE, LOCKED, SWEEP, LAST-ANSWER, WALLET-MISSING, WALLET-LIVE, WALLET-CLOSED}
 use Rattle.rules.specs.Table.{rowsIn}
 use Rattle.rules.specs.Ledger.{Edition, Ledger, ledger, outcome, wallet, walletCount, escrowCount, receiptCount, entryCount, hasWallet, setHeader, lengthsRight, freshHeader, fresh}
 use Rattle.rules.specs.Record.{readOf, nothing, writeOf}
@@ -13,10 +13,12 @@ use Rattle.rules.specs.Sound.{sound, credits}
 use Rattle.rules.specs.Refusals.{Refusal, row, refusals}
 use Rattle.rules.specs.Settle.{settle, swept}
 use Rattle.rules.specs.Submit.{submit}
-use Rattle.rules.specs.Lookup.{escrowPart, receiptPart, walletNumber}
+use Rattle.rules.specs.Lookup.{escrowPart, receiptPart, walletState}
+use Rattle.rules.specs.Wallets.{standingOf}
 use Rattle.rules.specs.History.{Call, Event, after, said, unbroken, bookOf}
 use Rattle.rules.specs.Due.{due, firstDueClosed}
 use Rattle.rules.specs.declared.Submission.{Submission}
+use Rattle.rules.specs.declared.Standing.{Standing}
 
 -- ---- What is spoken of
 
@@ -76,13 +78,19 @@ Read-answers = (b : List ℕ) → (readOf b .number ≡ 0) ⊎ ((readOf b .numbe
 abbrev pub Write-answers : Type 0
 Write-answers = (s : Submission) (out : List ℕ) → (writeOf s out .number ≡ 0) ⊎ ((writeOf s out .number ≡ 3) × (writeOf s out .out ≡ out))
 
--- a lookup finds a whole row or nothing, a row number or 0
+-- missing and 0, or live or closed and the number of one of these rows
+abbrev pub Stands : ℕ → Standing → Type 0
+Stands rows x =
+    ((x .state ≡ WALLET-MISSING) × (x .number ≡ 0))
+    ⊎ (((x .state ≡ WALLET-LIVE) ⊎ (x .state ≡ WALLET-CLOSED)) × (1 ≤ x .number) × (x .number ≤ rows))
+
+-- a lookup finds a whole row or nothing; of a wallet, whether it is missing, live or closed, and its row's number or 0
 abbrev pub Part-answers : Type 0
 Part-answers =
     (e : Edition) (header t : List ℕ) (k : ℕ) →
     ((escrowPart e header t k ≡ []) ⊎ (length (escrowPart e header t k) ≡ e .escrow))
     × ((receiptPart e header t k ≡ []) ⊎ (length (receiptPart e header t k) ≡ RECEIPT-LEN))
-    × (walletNumber e header t k ≤ rowsIn WALLET-LEN t)
+    × Stands (rowsIn WALLET-LEN t) (standingOf (walletState e header t k))
 
 -- ---- Demand 2: settled exactly when no check refuses, otherwise the first refusal; the ledger laid down; the record read back
 

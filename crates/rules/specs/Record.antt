@@ -41,6 +41,7 @@ usesTable =
     ∷ uses 0b0000 false false true false false false
     ∷ uses 0b0111 true true false false false false
     ∷ uses 0b0011 true true true false true false
+    ∷ uses 0b0011 true true false false false false
     ∷ []
 
 unfoldable pub usesOf : ℕ → Uses

@@ -1,17 +1,18 @@
 -- Section "Numbered answers, in order of check": one table, a row for each number. The order of check is that of the rows, not of the numbers:
--- 41 stands between 34 and 35. Each condition is exact by itself: where it speaks of a row, it says that the row is there.
+-- 41 stands between 34 and 35, 43 and then 42 between 16 and 17. Each condition is exact by itself: where it speaks of a row, it says that the row is there.
 use mathlib.Core.List.{List, [], _∷_, _++_}
 use mathlib.Core.Bool.{Bool, false, not, cond, _&&_, _||_}
 use Prim.Native.Nat.{ℕ, _+_, _-_}
 use lib.Dec.{eqb, ltb, leb}
 use Rattle.rules.specs.Limits.{WALLET-LEN, RECEIPT-LEN, JOURNAL-LEN, MAX-AMOUNT-MICRO, MAX-GRANTED-MICRO, MAX-SWEEP-ROWS}
 use Rattle.rules.specs.Limits.{MAX-SKEW-MS, MAX-ENVELOPE-MS, DAY-MS, MAX-HOLD-MS, MIN-ACCEPTANCE-MS, MAX-ACCEPTANCE-MS}
-use Rattle.rules.specs.Limits.{GRANT, TRANSFER, OPEN, RELEASE, REFUND, CLAIM, ACCEPT, DISPUTE, SWEEP, FREEZE, CAPS}
-use Rattle.rules.specs.Limits.{SIGNATURE-HELD, ADMIN, REASON-GIVEN, SYSTEM-FROZEN, CLOCK, GRANTED, BALANCE, FROZEN, TX-CAP, DAILY-CAP}
+use Rattle.rules.specs.Limits.{GRANT, TRANSFER, OPEN, RELEASE, REFUND, CLAIM, ACCEPT, DISPUTE, SWEEP, FREEZE, CAPS, CLOSE}
+use Rattle.rules.specs.Limits.{SIGNATURE-HELD, ADMIN, REASON-GIVEN, SYSTEM-FROZEN, CLOCK, GRANTED, BALANCE, LOCKED, FROZEN, TX-CAP, DAILY-CAP, IS-FROZEN}
 use Rattle.rules.specs.Limits.{FROM, TO, ESCROW-DEADLINE, ESCROW-STATE, REQUESTER, ACCEPTANCE-DEADLINE, RECEIPT-STATE, IS-OPEN, PENDING}
 use Rattle.rules.specs.Limits.{SIGNER, NONCE, OPERATION, ENTRY-AMOUNT, SETTLED-AT}
 use Rattle.rules.specs.Table.{word, some, sum, all}
 use Rattle.rules.specs.Ledger.{Ledger, head, escrow, receipt, walletCount, escrowCount, receiptCount, entryCount, hasWallet, walletOf, written, full, lengthsRight}
+use Rattle.rules.specs.Wallets.{isClosed, openTo}
 use Rattle.rules.specs.Record.{bit}
 use Rattle.rules.specs.Sound.{sound, between}
 use Rattle.rules.specs.declared.Submission.{Submission}
@@ -40,7 +41,7 @@ on s ops b = oneOf ops (s .op) && b
 
 -- every operation but the sweep
 abbrev pub signed : List ℕ
-signed = GRANT ∷ TRANSFER ∷ OPEN ∷ RELEASE ∷ REFUND ∷ CLAIM ∷ ACCEPT ∷ DISPUTE ∷ FREEZE ∷ CAPS ∷ []
+signed = GRANT ∷ TRANSFER ∷ OPEN ∷ RELEASE ∷ REFUND ∷ CLAIM ∷ ACCEPT ∷ DISPUTE ∷ FREEZE ∷ CAPS ∷ CLOSE ∷ []
 
 abbrev pub clear : Submission → ℕ → Bool
 clear s k = eqb (bit k (s .flags)) 0
@@ -94,6 +95,21 @@ linked s b = on s (CLAIM ∷ []) (not (eqb (s .link) 0) && b)
 abbrev pub closing : List ℕ
 closing = RELEASE ∷ REFUND ∷ []
 
+-- the operations that name a wallet by the signer, and by the target. Target 0 of a freeze is the system, and no wallet of a sound ledger.
+abbrev pub signs : List ℕ
+signs = TRANSFER ∷ OPEN ∷ CLAIM ∷ []
+
+abbrev pub targets : List ℕ
+targets = GRANT ∷ TRANSFER ∷ OPEN ∷ CLAIM ∷ FREEZE ∷ CAPS ∷ CLOSE ∷ []
+
+-- the wallet of id is there, and has balance, locked credits or an open escrow to it
+abbrev pub notEmpty : Ledger → ℕ → Bool
+notEmpty L id =
+    hasWallet L id
+    && (ltb 0 (walletOf L id BALANCE)
+    || (ltb 0 (walletOf L id LOCKED)
+    || openTo (L .edition .escrow) (L .escrows) (escrowCount L) id))
+
 -- the requester's replies to a claim
 abbrev pub replying : List ℕ
 replying = ACCEPT ∷ DISPUTE ∷ []
@@ -112,7 +128,7 @@ envelopeRefusals L s =
     row 4 (ltb (s .now) (head L CLOCK))
     ∷ row 5 (between 1 9 (s .op) && eqb (head L SYSTEM-FROZEN) 1)
     ∷ row 6 (on s signed (clear s SIGNATURE-HELD))
-    ∷ row 7 (on s (GRANT ∷ FREEZE ∷ CAPS ∷ []) (clear s ADMIN))
+    ∷ row 7 (on s (GRANT ∷ FREEZE ∷ CAPS ∷ CLOSE ∷ []) (clear s ADMIN))
     ∷ row 8 (on s signed (ltb (s .now + MAX-SKEW-MS) (s .issued)))
     ∷ row 9 (on s signed (ltb (s .expires) (s .now)))
     ∷ row 10 (on s signed (ltb (s .issued + MAX-ENVELOPE-MS) (s .expires)))
@@ -127,9 +143,11 @@ operationRefusals L s =
     || (on s (SWEEP ∷ []) (not (between 1 MAX-SWEEP-ROWS (s .amount)))
     || on s (CAPS ∷ []) (ltb MAX-AMOUNT-MICRO (s .amount) || ltb MAX-AMOUNT-MICRO (s .link))))
     ∷ row 13 (on s paying (not (hasWallet L (s .signer))))
-    ∷ row 14 (on s paying (sender L s (eqb (walletOf L (s .signer) FROZEN) 1)))
+    ∷ row 14 (on s paying (sender L s (eqb (walletOf L (s .signer) FROZEN) IS-FROZEN)))
     ∷ row 15 (on s (GRANT ∷ TRANSFER ∷ OPEN ∷ CLAIM ∷ []) (eqb (s .target) 0) || on s (TRANSFER ∷ OPEN ∷ CLAIM ∷ []) (eqb (s .target) (s .signer)))
-    ∷ row 16 (on s (FREEZE ∷ []) (not (eqb (s .target) 0) && not (hasWallet L (s .target))) || on s (CAPS ∷ []) (not (hasWallet L (s .target))))
+    ∷ row 16 (on s (FREEZE ∷ []) (not (eqb (s .target) 0) && not (hasWallet L (s .target))) || on s (CAPS ∷ CLOSE ∷ []) (not (hasWallet L (s .target))))
+    ∷ row 43 (on s signs (isClosed L (s .signer)) || on s targets (isClosed L (s .target)))
+    ∷ row 42 (on s (CLOSE ∷ []) (notEmpty L (s .target)))
     ∷ row 17 (on s paying (sender L s (ltb (walletOf L (s .signer) BALANCE) (s .amount))))
     ∷ row 18 (on s paying (sender L s (ltb (walletOf L (s .signer) TX-CAP) (s .amount))))
     ∷ row 19 (on s paying (sender L s (ltb (walletOf L (s .signer) DAILY-CAP) (s .amount + counted L (s .signer) (s .now)))))

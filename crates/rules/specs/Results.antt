@@ -18,14 +18,16 @@ use Rattle.rules.specs.Record.{readOf, nothing, Written, writeOf}
 use Rattle.rules.specs.Refusals.{refusals}
 use Rattle.rules.specs.Settle.{settle}
 use Rattle.rules.specs.Submit.{submit}
-use Rattle.rules.specs.Lookup.{escrowPlace, escrowPart, receiptPlace, receiptPart, walletNumber}
+use Rattle.rules.specs.Lookup.{escrowPlace, escrowPart, receiptPlace, receiptPart, walletState}
+use Rattle.rules.specs.Wallets.{standingOf}
 use Rattle.rules.specs.Status.{statuses, statusOf}
 use Rattle.rules.specs.Replay.{gone, told, replay}
 use Rattle.rules.specs.Report.{Report, telling, report}
-use Rattle.rules.specs.Promises.{none, IsFirst}
+use Rattle.rules.specs.Promises.{none, IsFirst, Stands}
 use Rattle.rules.specs.declared.Submission.{Submission}
 use Rattle.rules.specs.declared.Read.{Read}
 use Rattle.rules.specs.declared.Verdict.{Verdict}
+use Rattle.rules.specs.declared.Standing.{Standing}
 
 -- ---- A call, by its own contract
 
@@ -64,7 +66,7 @@ pair header table = record { header = header; table = table }
 
 -- what a lookup was asked, and the answer
 pub data Looked : Type 0 where
-  wallet-number : (id number : ℕ) → Looked
+  wallet-standing : (id : ℕ) (standing : Standing) → Looked
   escrow-place : (number place : ℕ) → Looked
   escrow-row : (number : ℕ) (part : List ℕ) → Looked
   receipt-place : (number place : ℕ) → Looked
@@ -83,7 +85,7 @@ pub data Result : Type 0 where
 
 -- a lookup finds what the definitions find
 abbrev pub Finds-as : Edition → Pair → Looked → Type 0
-Finds-as e lent (wallet-number id number) = number ≡ walletNumber e (lent .header) (lent .table) id
+Finds-as e lent (wallet-standing id standing) = standing ≡ standingOf (walletState e (lent .header) (lent .table) id)
 Finds-as e lent (escrow-place number place) = place ≡ escrowPlace e (lent .header) (lent .table) number
 Finds-as e lent (escrow-row number part) = part ≡ escrowPart e (lent .header) (lent .table) number
 Finds-as e lent (receipt-place number place) = place ≡ receiptPlace e (lent .header) (lent .table) number
@@ -105,7 +107,7 @@ Meets e (by-status number status) = status ≡ statusOf number
 
 -- "a lookup: the row, row number or empty part"
 abbrev pub Part-of : Edition → List ℕ → Looked → Type 0
-Part-of e table (wallet-number id number) = number ≤ rowsIn WALLET-LEN table
+Part-of e table (wallet-standing id standing) = Stands (rowsIn WALLET-LEN table) standing
 Part-of e table (escrow-place number place) = place ≤ length table
 Part-of e table (escrow-row number part) = (part ≡ []) ⊎ (length part ≡ e .escrow)
 Part-of e table (receipt-place number place) = place ≤ length table

@@ -18,20 +18,20 @@ use Rattle.rules.specs.Submit.{submit}
 use Rattle.rules.specs.History.{Event, submitted, begun, Said, unbroken}
 use Rattle.rules.specs.Promises.{Adds-up, Same-lengths, started}
 use Rattle.rules.specs.Same.{Same-written}
-use Rattle.rules.specs.Results.{Looked, wallet-number, escrow-place, escrow-row, receipt-place, receipt-row, Result, by-fresh, by-submit, by-replay, by-report, by-lookup, by-read, by-write, by-status, Meets, Listed, DecidedBy}
+use Rattle.rules.specs.Results.{Looked, wallet-standing, escrow-place, escrow-row, receipt-place, receipt-row, Result, by-fresh, by-submit, by-replay, by-report, by-lookup, by-read, by-write, by-status, Meets, Listed, DecidedBy}
 use Rattle.rules.specs.declared.Answer.{Answer}
 use Rattle.rules.specs.declared.Verdict.{Verdict}
 
 -- the table that a lookup is lent, and the ledger with another in its place
 abbrev pub asked : Looked → Ledger → List ℕ
-asked (wallet-number id number) L = L .wallets
+asked (wallet-standing id standing) L = L .wallets
 asked (escrow-place number place) L = L .escrows
 asked (escrow-row number part) L = L .escrows
 asked (receipt-place number place) L = L .receipts
 asked (receipt-row number part) L = L .receipts
 
 abbrev pub setAsked : Looked → List ℕ → Ledger → Ledger
-setAsked (wallet-number id number) = setWallets
+setAsked (wallet-standing id standing) = setWallets
 setAsked (escrow-place number place) = setEscrows
 setAsked (escrow-row number part) = setEscrows
 setAsked (receipt-place number place) = setReceipts

@@ -5,7 +5,7 @@ use Prim.Native.Nat.{ℕ, _+_, _-_}
 use lib.ListN.{getD}
 use lib.Dec.{eqb, ltb}
 use Rattle.rules.specs.Limits.{DEFAULT-TX-CAP-MICRO, DEFAULT-DAILY-CAP-MICRO, AUTO-OR-FREEZE, SWEEP, RELEASE-IMPOSSIBLE}
-use Rattle.rules.specs.Limits.{SYSTEM-FROZEN, CLOCK, GRANTED, BALANCE, LOCKED, FROZEN, TX-CAP, DAILY-CAP, IS-OPEN, RELEASED, REFUNDED, EXPIRED}
+use Rattle.rules.specs.Limits.{SYSTEM-FROZEN, CLOCK, GRANTED, BALANCE, LOCKED, FROZEN, TX-CAP, DAILY-CAP, IS-CLOSED, IS-OPEN, RELEASED, REFUNDED, EXPIRED}
 use Rattle.rules.specs.Limits.{FROM, TO, ESCROW-AMOUNT, ESCROW-DEADLINE, ESCROW-STATE, ESCROW-CLOSED-AT, ESCROW-CLOSED-BY}
 use Rattle.rules.specs.Limits.{RECEIPT-LINK, ACCEPTANCE-DEADLINE, AUTO-ACCEPT, RECEIPT-STATE, RECEIPT-CLOSED-AT, RECEIPT-CLOSED-BY, RELEASE-CODE}
 use Rattle.rules.specs.Limits.{PENDING, ACCEPTED, DISPUTED, LAPSED}
@@ -151,10 +151,13 @@ unfoldable pub caps : Submission → Ledger → Done
 caps s L =
     done 0 (putWallet (walletRow L (s .target)) DAILY-CAP (s .link) (putWallet (walletRow L (s .target)) TX-CAP (s .amount) L))
 
+unfoldable pub close : Submission → Ledger → Done
+close s L = done 0 (putWallet (walletRow L (s .target)) FROZEN IS-CLOSED L)
+
 -- the operations by their numbers, from 1 on
 abbrev pub operations : List (Submission → Ledger → Done)
 operations =
-    grant ∷ transfer ∷ openEscrow ∷ release ∷ refund ∷ claim ∷ accept ∷ dispute ∷ sweep ∷ freeze ∷ caps ∷ []
+    grant ∷ transfer ∷ openEscrow ∷ release ∷ refund ∷ claim ∷ accept ∷ dispute ∷ sweep ∷ freeze ∷ caps ∷ close ∷ []
 
 abbrev pub idle : Submission → Ledger → Done
 idle s L = done 0 L

@@ -5,7 +5,7 @@ use mathlib.Core.Bool.{Bool, true, not, cond, _&&_, _||_}
 use Prim.Native.Nat.{ℕ, _+_, _-_}
 use lib.Dec.{eqb, leb}
 use Rattle.rules.specs.Limits.{WALLET-LEN, RECEIPT-LEN, JOURNAL-LEN, LAST-TIME-MS, MAX-AMOUNT-MICRO, MAX-GRANTED-MICRO, TRANSFER, OPEN}
-use Rattle.rules.specs.Limits.{EDITION, SYSTEM-FROZEN, CLOCK, GRANTED, ID, BALANCE, LOCKED, FROZEN, IS-OPEN}
+use Rattle.rules.specs.Limits.{EDITION, SYSTEM-FROZEN, CLOCK, GRANTED, ID, BALANCE, LOCKED, FROZEN, IS-CLOSED, IS-OPEN}
 use Rattle.rules.specs.Limits.{FROM, TO, ESCROW-AMOUNT, ESCROW-DEADLINE, ESCROW-STATE, OPENED-AT, ESCROW-CLOSED-AT}
 use Rattle.rules.specs.Limits.{PROVIDER, REQUESTER, RECEIPT-LINK, ACCEPTANCE-DEADLINE, AUTO-ACCEPT, RECEIPT-STATE, CLAIMED-AT, RECEIPT-CLOSED-AT}
 use Rattle.rules.specs.Limits.{OPERATION, ENTRY-AMOUNT, SETTLED-AT}
@@ -31,9 +31,9 @@ headerTests L =
     ∷ leb (entryCount L) (rowsIn JOURNAL-LEN (L .journal))
     ∷ []
 
--- a wallet by itself
+-- a wallet by itself: its frozen word is 0, 1 or, closed, 2
 abbrev pub walletTests : Ledger → ℕ → List Bool
-walletTests L i = not (eqb (wallet L i ID) 0) ∷ flag (wallet L i FROZEN) ∷ []
+walletTests L i = not (eqb (wallet L i ID) 0) ∷ leb (wallet L i FROZEN) IS-CLOSED ∷ []
 
 -- an escrow by itself: two different wallets, an amount, times, a state; and both wallets are written
 abbrev pub escrowAloneTests : Ledger → ℕ → List Bool

@@ -96,6 +96,23 @@ pub struct EscrowNumber(pub u64);
 #[repr(C)]
 pub struct ReceiptNumber(pub u64);
 
+// What looking up a wallet finds. A frozen wallet is live.
+pub enum WalletState {
+    // There is none.
+    Missing,
+    // It is there and not closed, and its number.
+    Live(WalletNumber),
+    // It is closed, and its number.
+    Closed(WalletNumber),
+}
+
+// The same as numbers: which of the three, and the number of its row, or 0.
+#[repr(C)]
+pub struct Standing {
+    pub state: u64,
+    pub number: u64,
+}
+
 const STATUSES: [u64; ANSWERS] = [
     200,
     500,
@@ -139,6 +156,8 @@ const STATUSES: [u64; ANSWERS] = [
     507,
     507,
     409,
+    409,
+    403,
 ];
 
 // The status of an answer; any other number has 500.

@@ -100,6 +100,18 @@ pub const TX_CAP: usize = 4;
 
 pub const DAILY_CAP: usize = 5;
 
+// What a wallet's frozen word says, if it isn't 0.
+pub const IS_FROZEN: u64 = 1;
+
+pub const IS_CLOSED: u64 = 2;
+
+// What looking up a wallet finds, in numbers.
+pub const WALLET_MISSING: u64 = 0;
+
+pub const WALLET_LIVE: u64 = 1;
+
+pub const WALLET_CLOSED: u64 = 2;
+
 // Words of an escrow.
 pub const FROM: usize = 0;
 
@@ -178,13 +190,15 @@ pub const FREEZE: u8 = 10;
 
 pub const CAPS: u8 = 11;
 
+pub const CLOSE: u8 = 12;
+
 // The last of them. The month's report has row 0 and a row for every operation: a later operation widens it here.
-pub const LAST_OPERATION: u8 = CAPS;
+pub const LAST_OPERATION: u8 = CLOSE;
 
 pub const GRID_ROWS: usize = LAST_OPERATION as usize + 1;
 
 // The last answer, and how many there are: the statuses, and the report's columns. A later answer widens both here.
-pub const LAST_ANSWER: u64 = 41;
+pub const LAST_ANSWER: u64 = 43;
 
 pub const ANSWERS: usize = LAST_ANSWER as usize + 1;
 
