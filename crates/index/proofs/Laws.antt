@@ -10,7 +10,7 @@ use native.Mathlib.Decide.{ℕ-discrete}
 use lib.Dec.{ltb}
 use lib.ListN.{getD, set, length, length-set}
 use lib.Seq.{getD-set-same, getD-set-other}
-use borrow.Author.Tests.{lt-ltb, le-ltb}
+use borrow.Author.Tests.{lt-ltb, ltb-true}
 use Rattle.rules.specs.Limits.{WALLET-LEN, MAX-WALLETS, ID}
 use Rattle.rules.specs.Table.{word, distinct}
 use Rattle.rules.specs.Ledger.{rowOf}
@@ -48,12 +48,12 @@ pub number-row : (w : List ℕ) (n x row : ℕ) → row ≡ rowOf w n x → row 
 unfolding numberOf
 number-row w n x row e h = rw (← e, lt-ltb row n h)
 
-pub number-found : (w : List ℕ) (n x number : ℕ) → number ≡ rowOf w n x + 1 → number ≤ n → number ≡ numberOf w n x
-number-found w n x number e h = e ∙ number-row w n x (rowOf w n x) refl (omega arith)
+pub number-found : (w : List ℕ) (n x number : ℕ) → ltb (rowOf w n x) n ≡ true → number ≡ rowOf w n x + 1 → number ≡ numberOf w n x
+number-found w n x number h e = e ∙ number-row w n x (rowOf w n x) refl (ltb-true _ _ h)
 
-pub number-none : (w : List ℕ) (n x number : ℕ) → number ≡ rowOf w n x + 1 → n < number → 0 ≡ numberOf w n x
+pub number-none : (w : List ℕ) (n x : ℕ) → ltb (rowOf w n x) n ≡ false → 0 ≡ numberOf w n x
 unfolding numberOf
-number-none w n x number e h = let l : n ≤ rowOf w n x = omega arith in rw (le-ltb (rowOf w n x) n l)
+number-none w n x h = rw h
 
 pub number-hit : (w : List ℕ) (n : ℕ) (ids t : List ℕ) (x r : ℕ) → Indexed w n ids t → Hit ids n x r → (r ≡ 0 → ⊥) → r ≡ numberOf w n x
 number-hit w n ids t x zero c h z = absurd (z refl)

@@ -8,6 +8,7 @@ ghost use Rattle.rules.specs.Limits.{WALLET-LEN, MAX-WALLETS};
 ghost use Rattle.rules.specs.Table.{every, distinct};
 ghost use Rattle.index.specs.Index.{NUMBERS, idAt, differs, Copied, Within, Seated, Filled, Hit, Indexed, numberOf, senderOf};
 use rules::WalletNumber;
+use rules::WalletState;
 use rules::limits::ID;
 use rules::limits::MAX_WALLETS;
 use rules::limits::WALLET_LEN;
@@ -199,10 +200,11 @@ fn look_on(w: &[u64], ids: &[u64; NUMBERS], t: &[u16; PLACES], n: usize, x: u64)
         return a;
     }
     let wallet = rows::numbered::find_wallet(w, n, x);
-    if wallet.0 <= n as u64 {
-        wallet.0 as usize
-    } else {
-        0
+    // an escrow's party may be closed: a sound ledger asks only that it is written
+    match wallet {
+        WalletState::Missing => 0,
+        WalletState::Live(number) => number.0 as usize,
+        WalletState::Closed(number) => number.0 as usize,
     }
 }
 

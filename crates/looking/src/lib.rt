@@ -1,19 +1,24 @@
 // Row lookups: that very row of the caller's table, or an empty part; and the search for a wallet.
 ghost use mathlib.Core.Path.{_≡_};
 ghost use Rattle.rules.specs.Ledger.{Sized};
-ghost use Rattle.rules.specs.Lookup.{escrowPlace, escrowPart, receiptPlace, receiptPart, walletNumber};
+ghost use Rattle.rules.specs.Lookup.{escrowPlace, escrowPart, receiptPlace, receiptPart, walletState};
+ghost use Rattle.rules.specs.Wallets.{standingOf};
 ghost use Rattle.rows.specs.Part.{placed};
 use rules::Edition;
 use rules::EscrowNumber;
 use rules::ReceiptNumber;
-use rules::WalletNumber;
+use rules::Standing;
+use rules::WalletState;
 use rules::limits::ESCROWS;
 use rules::limits::MAX_ESCROWS;
 use rules::limits::MAX_RECEIPTS;
 use rules::limits::MAX_WALLETS;
 use rules::limits::RECEIPT_LEN;
 use rules::limits::RECEIPTS;
+use rules::limits::WALLET_CLOSED;
 use rules::limits::WALLET_LEN;
+use rules::limits::WALLET_LIVE;
+use rules::limits::WALLET_MISSING;
 use rules::limits::WALLETS;
 
 // Where an escrow's row starts in the table, in words; the table's length where it is not written.
@@ -76,9 +81,9 @@ pub fn receipt_row<'a>(
     rows::row_part(receipts, RECEIPT_LEN, place)
 }
 
-// The number of the first written wallet with the id; 0 where there is none.
-pub fn wallet_row(edition: Edition, header: &[u64], wallets: &[u64], id: u64) -> WalletNumber
-    ensures { λ r. ⌜ r .0 ≡ walletNumber edition (now (header .entry)) (now (wallets .entry)) id ⌝ }
+// The wallet of an id: missing, or live or closed and its number. A closed one is told from a missing one, and from a live one.
+pub fn wallet_row(edition: Edition, header: &[u64], wallets: &[u64], id: u64) -> WalletState
+    ensures { λ r. ⌜ r ≡ walletState edition (now (header .entry)) (now (wallets .entry)) id ⌝ }
 {
     let right = rows::count_right(
         header,
@@ -89,13 +94,28 @@ pub fn wallet_row(edition: Edition, header: &[u64], wallets: &[u64], id: u64) ->
         MAX_WALLETS,
     );
     if !right | (id == 0) {
-        return WalletNumber(0);
+        return WalletState::Missing;
     }
     let n = rows::at(header, WALLETS) as usize;
-    let wallet = rows::numbered::find_wallet(wallets, n, id);
-    if wallet.0 <= n as u64 {
-        wallet
-    } else {
-        WalletNumber(0)
+    rows::numbered::find_wallet(wallets, n, id)
+}
+
+// The same in numbers: an enum does not cross `extern "C"`.
+pub fn standing(state: WalletState) -> Standing
+    ensures { λ r. ⌜ r ≡ standingOf state ⌝ }
+{
+    match state {
+        WalletState::Missing => Standing {
+            state: WALLET_MISSING,
+            number: 0,
+        },
+        WalletState::Live(wallet) => Standing {
+            state: WALLET_LIVE,
+            number: wallet.0,
+        },
+        WalletState::Closed(wallet) => Standing {
+            state: WALLET_CLOSED,
+            number: wallet.0,
+        },
     }
 }

@@ -1,26 +1,36 @@
 // Words of a row by the row's number, counted from 1. Wallets, escrows and receipts are numbered apart, each by a type of its own, so none is
 // looked up or closed in the place of another.
 ghost use mathlib.Core.Path.{_≡_};
-ghost use Prim.Native.Nat.{_+_, _-_, _*_, _<_, _≤_, _^_};
+ghost use Prim.Native.Nat.{_-_, _*_, _<_, _≤_, _^_};
 ghost use lib.ListN.{length};
 ghost use Rattle.rules.specs.Limits.{WALLET-LEN, RECEIPT-LEN};
 ghost use Rattle.rules.specs.Table.{word, put};
-ghost use Rattle.rules.specs.Ledger.{rowOf};
+ghost use Rattle.rules.specs.Wallets.{lookUp};
 ghost use Rattle.rows.specs.Numbered.{Names};
 use rules::Edition;
 use rules::EscrowNumber;
 use rules::ReceiptNumber;
 use rules::WalletNumber;
+use rules::WalletState;
+use rules::limits::FROZEN;
+use rules::limits::IS_CLOSED;
 use rules::limits::RECEIPT_LEN;
 use rules::limits::WALLET_LEN;
 
-// The number of the first of n written wallets that has the id; where there is none, the number that a new wallet gets.
-pub fn find_wallet(wallets: &[u64], n: usize, id: u64) -> WalletNumber
+// Looks up the wallet of an id among n written ones: missing, or live or closed and its number. No other place reads the word for closed.
+pub fn find_wallet(wallets: &[u64], n: usize, id: u64) -> WalletState
     requires { ⌜ n * WALLET-LEN ≤ length (now wallets) ⌝ }
-    ensures { λ r. ⌜ r .0 ≡ rowOf (now (wallets .entry)) n id + 1 ⌝ }
+    ensures { λ r. ⌜ r ≡ lookUp (now (wallets .entry)) n id ⌝ }
 {
     let row = crate::find_row(wallets, n, id);
-    WalletNumber(row as u64 + 1)
+    if n <= row {
+        return WalletState::Missing;
+    }
+    let number = WalletNumber(row as u64 + 1);
+    if wallets[row * WALLET_LEN + FROZEN] == IS_CLOSED {
+        return WalletState::Closed(number);
+    }
+    WalletState::Live(number)
 }
 
 // Word k of a wallet; 0 past the end.

@@ -1,5 +1,5 @@
 -- `looking::wallet_row` meets its contract.
-use Rattle.looking.proofs.Parts.{not-asked, counted, found, not-found}
+use Rattle.looking.proofs.Parts.{not-asked, counted, searched}
 use borrow.Author.Needs.{needs}
 use Rattle.looking.proofs.wallet_row.Statement.{statement}
 use Rattle.looking.proofs.wallet_row.Tie as tie
@@ -27,19 +27,12 @@ find-wallet-requires c κs =
 
 returns-2 : tie.Need-returns-2
 returns-2 c =
-    let read = c .before .before .before in
+    let read = c .before in
     let tested = read .before .before in
     let a = tested .before .before .before .args in
-    found (a .edition) (a .header .now) (a .wallets .now) (a .id) (tested .count-right .ensures) (read .before .if1 .left) (read .at .ensures) (c .before .before .find-wallet .ensures) (c .if2 .taken)
-
-returns-3 : tie.Need-returns-3
-returns-3 c =
-    let read = c .before .before .before in
-    let tested = read .before .before in
-    let a = tested .before .before .before .args in
-    not-found (a .edition) (a .header .now) (a .wallets .now) (a .id) (tested .count-right .ensures) (read .before .if1 .left) (read .at .ensures) (c .before .before .find-wallet .ensures) (c .if2 .left)
+    searched (a .edition) (a .header .now) (a .wallets .now) (a .id) (tested .count-right .ensures) (read .before .if1 .left) (read .at .ensures) (c .find-wallet .ensures)
 
 pub wallet-row-spec : {M : Type 1} → statement M
 wallet-row-spec =
     tie.close
-    (tie.spec count-right-requires returns at-requires find-wallet-requires returns-2 returns-3)
+    (tie.spec count-right-requires returns at-requires find-wallet-requires returns-2)
