@@ -2,7 +2,7 @@
 ghost use mathlib.Core.Path.{_≡_};
 ghost use Prim.Native.Nat.{_*_, _≤_, _<_};
 ghost use lib.ListN.{getD, length};
-ghost use Rattle.rules.specs.Limits.{JOURNAL-LEN, ENTRIES, LAST-TIME-MS, CAPS};
+ghost use Rattle.rules.specs.Limits.{JOURNAL-LEN, ENTRIES, LAST-TIME-MS, LAST-OPERATION};
 ghost use Rattle.rules.specs.Ledger.{Ledger};
 ghost use Rattle.rules.specs.Moments.{any, _with-header_, _with-journal_};
 ghost use Rattle.rules.specs.Refusals.{first, seenIn, envelopeRefusals};
@@ -10,6 +10,7 @@ use rules::Submission;
 use rules::limits::ADMIN;
 use rules::limits::CAPS;
 use rules::limits::CLOCK;
+use rules::limits::CLOSE;
 use rules::limits::ENTRIES;
 use rules::limits::FREEZE;
 use rules::limits::GRANT;
@@ -40,7 +41,7 @@ pub fn seen(journal: &[u64], n: usize, signer: u64, nonce: u64) -> bool
 
 // The first of checks 4 to 11 that holds, or 0. Each condition is worked out, whether or not an earlier one holds.
 pub fn envelope_refusal(header: &[u64], journal: &[u64], s: Submission) -> u64
-    requires { ⌜ (ENTRIES < length (now header)) × (getD (now header) ENTRIES 0 * JOURNAL-LEN ≤ length (now journal)) × (1 ≤ s .op) × (s .op ≤ CAPS) × (s .now ≤ LAST-TIME-MS) × (s .issued ≤ LAST-TIME-MS) ⌝ }
+    requires { ⌜ (ENTRIES < length (now header)) × (getD (now header) ENTRIES 0 * JOURNAL-LEN ≤ length (now journal)) × (1 ≤ s .op) × (s .op ≤ LAST-OPERATION) × (s .now ≤ LAST-TIME-MS) × (s .issued ≤ LAST-TIME-MS) ⌝ }
     ensures { λ x. ⌜ ((K : Ledger) → let L = any K with-header header with-journal journal in x ≡ first (envelopeRefusals (L .entry) s)) ⌝ }
 {
     let clock = header[CLOCK];
@@ -49,7 +50,7 @@ pub fn envelope_refusal(header: &[u64], journal: &[u64], s: Submission) -> u64
     let used = seen(journal, entries as usize, s.signer, s.nonce);
     // a sweep has no envelope
     let signed = s.op != SWEEP;
-    let for_admins = (s.op == GRANT) | ((s.op == FREEZE) | (s.op == CAPS));
+    let for_admins = (s.op == GRANT) | ((s.op == FREEZE) | ((s.op == CAPS) | (s.op == CLOSE)));
     let clock_back = s.now < clock;
     let system_frozen = ((GRANT <= s.op) & (s.op <= SWEEP)) & (frozen == 1);
     let invalid_signature = signed & (s.flags / SIGNATURE_HELD % 2 == 0);

@@ -1,4 +1,4 @@
-// Checks 15 to 41 of the operations on escrows and receipts: release and refund, claim, accept and dispute.
+// Checks 15 to 43 of the operations on escrows and receipts: release and refund, claim, accept and dispute.
 ghost use mathlib.Core.Path.{_≡_};
 ghost use mathlib.Core.Logic.{_⊎_};
 ghost use Prim.Native.Nat.{_*_, _≤_, _<_};
@@ -9,10 +9,12 @@ ghost use Rattle.rules.specs.Ledger.{Ledger, Sized};
 ghost use Rattle.rules.specs.Moments.{lent, any, _of-edition_, _with-header_, _with-escrows_, _with-receipts_, _with-journal_};
 ghost use Rattle.rules.specs.Refusals.{first, operationRefusals};
 ghost use Rattle.holds.specs.Named.{named};
+ghost use Rattle.holds.specs.Terms.{termRefusals};
 use rules::Edition;
 use rules::EscrowNumber;
 use rules::ReceiptNumber;
 use rules::Submission;
+use rules::WalletState;
 use rules::limits::ACCEPTANCE_DEADLINE;
 use rules::limits::ADMIN;
 use rules::limits::DISPUTE;
@@ -83,25 +85,21 @@ pub fn closing_refusal(
     rows::choose(!there, 27, r28)
 }
 
-// A claim: checks 15, 22 to 27, 29 to 31, 39, 40.
-pub fn claim_refusal(
+// Checks 24 to 27, 29 to 31, 39, 40 of a claim whose parties are live: its times, the escrow that it links, and room.
+fn terms_refusal(
     edition: Edition,
     header: &[u64],
-    wallets: &[u64],
     escrows: &[u64],
     receipts: &[u64],
     journal: &[u64],
     s: Submission,
 ) -> u64
-    requires { ⌜ (ENTRIES < length (now header)) × (getD (now header) ESCROWS 0 ≤ MAX-ESCROWS) × (getD (now header) WALLETS 0 * WALLET-LEN ≤ length (now wallets)) × (s .issued ≤ LAST-TIME-MS) × (s .op ≡ CLAIM) × Sized edition ⌝ }
-    ensures { λ x. ⌜ x ≡ first (operationRefusals (lent edition header wallets escrows receipts journal .entry) s) ⌝ }
+    requires { ⌜ (ENTRIES < length (now header)) × (getD (now header) ESCROWS 0 ≤ MAX-ESCROWS) × (s .issued ≤ LAST-TIME-MS) × Sized edition ⌝ }
+    ensures { λ x. ⌜ ((K : Ledger) → let L = any K of-edition edition with-header header with-escrows escrows with-receipts receipts with-journal journal in x ≡ first (termRefusals (L .entry) s)) ⌝ }
 {
-    let count = header[WALLETS] as usize;
     let held = header[ESCROWS];
     let claimed = header[RECEIPTS] as usize;
     let entries = header[ENTRIES] as usize;
-    let provider = rows::numbered::find_wallet(wallets, count, s.signer);
-    let requester = rows::numbered::find_wallet(wallets, count, s.target);
     let escrow = escrow_named(held, EscrowNumber(s.link));
     let from = rows::numbered::escrow(edition, escrows, escrow, FROM);
     let to = rows::numbered::escrow(edition, escrows, escrow, TO);
@@ -109,9 +107,6 @@ pub fn claim_refusal(
     let state = rows::numbered::escrow(edition, escrows, escrow, ESCROW_STATE);
     let linked = s.link != 0;
     let there = (0 < s.link) & (s.link <= held);
-    let recipient_invalid = (s.target == 0) | (s.target == s.signer);
-    let provider_not_found = !(provider.0 <= count as u64);
-    let requester_not_found = !(requester.0 <= count as u64);
     let window_too_short = s.until < s.issued + MIN_ACCEPTANCE_MS;
     let window_too_long = s.issued + MAX_ACCEPTANCE_MS < s.until;
     let deadline_past = s.until < s.now;
@@ -129,10 +124,41 @@ pub fn claim_refusal(
     let r27 = rows::choose(escrow_not_found, 27, r29);
     let r26 = rows::choose(deadline_past, 26, r27);
     let r25 = rows::choose(window_too_long, 25, r26);
-    let r24 = rows::choose(window_too_short, 24, r25);
-    let r23 = rows::choose(requester_not_found, 23, r24);
-    let r22 = rows::choose(provider_not_found, 22, r23);
-    rows::choose(recipient_invalid, 15, r22)
+    rows::choose(window_too_short, 24, r25)
+}
+
+// A claim: checks 15, 43, 22 to 27, 29 to 31, 39, 40, in this order. A closed party is told before a missing one.
+pub fn claim_refusal(
+    edition: Edition,
+    header: &[u64],
+    wallets: &[u64],
+    escrows: &[u64],
+    receipts: &[u64],
+    journal: &[u64],
+    s: Submission,
+) -> u64
+    requires { ⌜ (ENTRIES < length (now header)) × (getD (now header) ESCROWS 0 ≤ MAX-ESCROWS) × (getD (now header) WALLETS 0 * WALLET-LEN ≤ length (now wallets)) × (s .issued ≤ LAST-TIME-MS) × (s .op ≡ CLAIM) × Sized edition ⌝ }
+    ensures { λ x. ⌜ x ≡ first (operationRefusals (lent edition header wallets escrows receipts journal .entry) s) ⌝ }
+{
+    if (s.target == 0) | (s.target == s.signer) {
+        return 15;
+    }
+    let count = header[WALLETS] as usize;
+    let provider = rows::numbered::find_wallet(wallets, count, s.signer);
+    let requester = rows::numbered::find_wallet(wallets, count, s.target);
+    match provider {
+        WalletState::Missing => match requester {
+            WalletState::Missing => 22,
+            WalletState::Live(_) => 22,
+            WalletState::Closed(_) => 43,
+        },
+        WalletState::Live(_) => match requester {
+            WalletState::Missing => 23,
+            WalletState::Live(_) => terms_refusal(edition, header, escrows, receipts, journal, s),
+            WalletState::Closed(_) => 43,
+        },
+        WalletState::Closed(_) => 43,
+    }
 }
 
 // An accept or a dispute: checks 32, 33, 34, 41, 35, 40, in this order.

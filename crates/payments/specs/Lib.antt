@@ -1,2 +1,3 @@
--- What the daily sum is given of a journal.
+-- What the daily sum is given of a journal, and what is left to check of a live sender.
 pub mod Entries
+pub mod Sending

@@ -3,12 +3,12 @@
 use mathlib.Core.Path.{_≡_, refl, sym, _∙_}
 use mathlib.Core.List.{List, [], _∷_}
 use mathlib.Core.Bool.{Bool, true, false, not, _&&_, _||_}
-use Prim.Native.Nat.{ℕ, zero, suc, _≤_, _<_}
+use Prim.Native.Nat.{ℕ, zero, suc, _≤_, _<_, _+_}
 use native.Mathlib.Omega.{arith}
 use lib.Dec.{T, eqb, ltb, leb}
 use lib.ListN.{getD}
 use borrow.Author.Tests.{leb-true, ne-eqb}
-use Rattle.rules.specs.Limits.{GRANT, TRANSFER, OPEN, RELEASE, REFUND, CLAIM, DISPUTE, SWEEP, FREEZE, CAPS, LAST-TIME-MS}
+use Rattle.rules.specs.Limits.{GRANT, TRANSFER, OPEN, RELEASE, REFUND, CLAIM, DISPUTE, SWEEP, FREEZE, CAPS, CLOSE, LAST-OPERATION, LAST-TIME-MS}
 use Rattle.rules.specs.Table.{all, every}
 use Rattle.rules.specs.Record.{bit, usesOf, usedOrZero, wellFormed}
 use Rattle.rules.specs.declared.Submission.{Submission}
@@ -20,7 +20,7 @@ abbrev isEnvelope : ℕ → Bool
 isEnvelope op = not (eqb op SWEEP)
 
 abbrev isAdmin : ℕ → Bool
-isAdmin op = eqb op GRANT || (eqb op RELEASE || (eqb op REFUND || (eqb op FREEZE || eqb op CAPS)))
+isAdmin op = eqb op GRANT || (eqb op RELEASE || (eqb op REFUND || (eqb op FREEZE || (eqb op CAPS || eqb op CLOSE))))
 
 abbrev isAutoOrFreeze : ℕ → Bool
 isAutoOrFreeze op = eqb op CLAIM || eqb op FREEZE
@@ -59,7 +59,7 @@ pairs op =
     ∷ same (usesOf op .envelope) (isEnvelope op) ∷ same (usesOf op .target) (isEnvelope op) ∷ same (usesOf op .amount) (isAmount op)
     ∷ same (usesOf op .until) (isUntil op) ∷ same (usesOf op .link) (isLink op) ∷ same (usesOf op .hash) (isHash op) ∷ []
 
-claim : T (every 12 (λ op. eqb op 0 || all (pairs op)))
+claim : T (every (LAST-OPERATION + 1) (λ op. eqb op 0 || all (pairs op)))
 unfolding every usesOf
 claim = tt
 
@@ -68,9 +68,9 @@ holds : (b : Bool) → T b → b ≡ true
 holds true t = refl
 holds false t = absurd t
 
-agree : (op : ℕ) → 1 ≤ op → op ≤ CAPS → (k : ℕ) → getD (pairs op) k true ≡ true
+agree : (op : ℕ) → 1 ≤ op → op ≤ LAST-OPERATION → (k : ℕ) → getD (pairs op) k true ≡ true
 agree op a b k =
-    let e = holds _ (below (λ op. eqb op 0 || all (pairs op)) 12 claim op (omega arith)) in
+    let e = holds _ (below (λ op. eqb op 0 || all (pairs op)) (LAST-OPERATION + 1) claim op (omega arith)) in
     all-at (pairs op) (or-other (eqb op 0) (all (pairs op)) (ne-eqb op 0 (omega arith)) e) k
 
 -- ---- the fields, by any tests of what is used: the definition's tests in their order
@@ -110,21 +110,21 @@ bit-free k flags used = go (bit k flags) (bit k used) (omega arith) (omega arith
     go zero (suc (suc u)) hb hu = absurd (omega arith)
     go (suc zero) (suc (suc u)) hb hu = absurd (omega arith)
 
-defined : (s : Submission) → leb 1 (s .op) && (leb (s .op) CAPS && all (tableTests s)) ≡ wellFormed s
+defined : (s : Submission) → leb 1 (s .op) && (leb (s .op) LAST-OPERATION && all (tableTests s)) ≡ wellFormed s
 unfolding wellFormed
 defined s =
     let f = s .flags in
     let u = usesOf (s .op) .bits in
     rw (bit-free 0 f u, bit-free 1 f u, bit-free 2 f u, bit-free 3 f u)
 
--- only operations 1 to 11 are asked about
+-- only the operations are asked about
 guarded : (a b : Bool) {x y : Bool} → (a ≡ true → b ≡ true → x ≡ y) → a && (b && x) ≡ a && (b && y)
 guarded true true f = f refl refl
 guarded true false f = refl
 guarded false b f = refl
 
-pub formed : (s : Submission) → leb 1 (s .op) && (leb (s .op) CAPS && all (codeTests s)) ≡ wellFormed s
-formed s = guarded (leb 1 op) (leb op CAPS) (λ a b. alike (agree op (leb-true 1 op a) (leb-true op CAPS b))) ∙ defined s
+pub formed : (s : Submission) → leb 1 (s .op) && (leb (s .op) LAST-OPERATION && all (codeTests s)) ≡ wellFormed s
+formed s = guarded (leb 1 op) (leb op LAST-OPERATION) (λ a b. alike (agree op (leb-true 1 op a) (leb-true op LAST-OPERATION b))) ∙ defined s
   where
     op : ℕ
     op = s .op

@@ -6,9 +6,11 @@ use rules::limits::ADMIN;
 use rules::limits::AUTO_OR_FREEZE;
 use rules::limits::CAPS;
 use rules::limits::CLAIM;
+use rules::limits::CLOSE;
 use rules::limits::DISPUTE;
 use rules::limits::FREEZE;
 use rules::limits::GRANT;
+use rules::limits::LAST_OPERATION;
 use rules::limits::LAST_TIME_MS;
 use rules::limits::OPEN;
 use rules::limits::REASON_GIVEN;
@@ -27,7 +29,7 @@ pub fn well_formed(s: Submission) -> bool
     // What operations 1 to 11 use besides now. The envelope is signer, nonce, issued and expires; all but the sweep have it, and a target.
     let envelope = !(op == SWEEP);
     let admin = (op == GRANT)
-        | ((op == RELEASE) | ((op == REFUND) | ((op == FREEZE) | (op == CAPS))));
+        | ((op == RELEASE) | ((op == REFUND) | ((op == FREEZE) | ((op == CAPS) | (op == CLOSE)))));
     let auto_or_freeze = (op == CLAIM) | (op == FREEZE);
     let reason = op == DISPUTE;
     let amount = (op == GRANT)
@@ -53,5 +55,5 @@ pub fn well_formed(s: Submission) -> bool
     let enveloped = (envelope | (s.signer == 0))
         & ((envelope | (s.nonce == 0))
             & ((envelope | (s.issued == 0)) & ((envelope | (s.expires == 0)) & asked)));
-    (1 <= op) & ((op <= CAPS) & (bits & enveloped))
+    (1 <= op) & ((op <= LAST_OPERATION) & (bits & enveloped))
 }

@@ -7,7 +7,7 @@ use lib.ListN.{getD, length}
 use lib.Dec.{eqb, leb}
 use borrow.Author.Tests.{leb-true}
 use Rattle.rules.specs.Limits.{WALLET-LEN, JOURNAL-LEN, MAX-WALLETS, MAX-ESCROWS, MAX-RECEIPTS, MAX-AMOUNT-MICRO, LAST-TIME-MS}
-use Rattle.rules.specs.Limits.{WALLETS, ESCROWS, RECEIPTS, ENTRIES, OPERATION, TRANSFER, OPEN, CAPS}
+use Rattle.rules.specs.Limits.{WALLETS, ESCROWS, RECEIPTS, ENTRIES, OPERATION, TRANSFER, OPEN, LAST-OPERATION}
 use Rattle.rules.specs.Ledger.{Ledger, ledgerOf, entry}
 use Rattle.rules.specs.Sound.{between}
 use Rattle.rules.specs.Refusals.{oneOf, paying}
@@ -48,6 +48,9 @@ module _ {ed : Edition} {h w e r j : List ℕ} {s : Submission} (given : Checkab
   pub wallets-fit : getD h WALLETS 0 * WALLET-LEN ≤ length w
   wallets-fit = rows-fit WALLET-LEN (getD h WALLETS 0) w (right .header .within .wallets)
 
+  pub escrows-fit : getD h ESCROWS 0 * ed .escrow ≤ length e
+  escrows-fit = rows-fit (ed .escrow) (getD h ESCROWS 0) e (right .header .within .escrows)
+
   pub journal-fit : getD h ENTRIES 0 * JOURNAL-LEN ≤ length j
   journal-fit = rows-fit JOURNAL-LEN (getD h ENTRIES 0) j (right .header .within .journal)
 
@@ -68,7 +71,7 @@ module _ {ed : Edition} {h w e r j : List ℕ} {s : Submission} (given : Checkab
   pub op-low : 1 ≤ s .op
   op-low = form .low
 
-  pub op-high : s .op ≤ CAPS
+  pub op-high : s .op ≤ LAST-OPERATION
   op-high = form .high
 
   pub now-time : s .now ≤ LAST-TIME-MS

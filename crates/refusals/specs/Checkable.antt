@@ -1,4 +1,4 @@
--- Where the checks 4 to 41 begin: answers 1, 2 and 3 were not given. And the rows of the table that are left.
+-- Where the checks 4 to 43 begin: answers 1, 2 and 3 were not given. And the rows of the table that are left.
 use mathlib.Core.Path.{_≡_}
 use mathlib.Core.List.{List, _++_}
 use mathlib.Core.Bool.{true}

@@ -1,4 +1,4 @@
-// Checks 4 to 41 on a ledger that is sound and a record that is well formed: the number of the first that holds, or 0. A family of
+// Checks 4 to 43 on a ledger that is sound and a record that is well formed: the number of the first that holds, or 0. A family of
 // operations is one strict group: each of its conditions is worked out, and then the first that holds is picked, from the last to the first.
 ghost use mathlib.Core.Path.{_≡_};
 ghost use Rattle.rules.specs.Moments.{tables, lent};
@@ -9,6 +9,7 @@ use rules::Submission;
 use rules::limits::ACCEPT;
 use rules::limits::CAPS;
 use rules::limits::CLAIM;
+use rules::limits::CLOSE;
 use rules::limits::DISPUTE;
 use rules::limits::FREEZE;
 use rules::limits::GRANT;
@@ -20,7 +21,7 @@ use rules::limits::TRANSFER;
 
 mod admin;
 
-// Checks 12 to 41, by the operation.
+// Checks 12 to 43, by the operation.
 fn operation_refusal(
     edition: Edition,
     header: &[u64],
@@ -43,11 +44,12 @@ fn operation_refusal(
         SWEEP => admin::sweep_refusal(s),
         FREEZE => admin::freeze_refusal(header, wallets, journal, s),
         CAPS => admin::caps_refusal(header, wallets, journal, s),
+        CLOSE => admin::close_refusal(edition, header, wallets, escrows, journal, s),
         _ => 0,
     }
 }
 
-// Checks 4 to 41: those of the envelope, and if none of them holds, those of the operation.
+// Checks 4 to 43: those of the envelope, and if none of them holds, those of the operation.
 pub fn refusal(
     edition: Edition,
     header: &[u64],

@@ -11,16 +11,17 @@ ghost use Rattle.sound.specs.Parts.{walletsIn};
 use rules::limits::BALANCE;
 use rules::limits::FROZEN;
 use rules::limits::ID;
+use rules::limits::IS_CLOSED;
 use rules::limits::LOCKED;
 use rules::limits::MAX_GRANTED_MICRO;
 use rules::limits::WALLET_LEN;
 
-// An id, and a flag.
+// An id, and a frozen word that says 0, 1 or, closed, 2.
 fn wallet_right(w: &[u64], i: usize) -> bool
     requires { ⌜ i * WALLET-LEN + WALLET-LEN ≤ length (now w) ⌝ }
     ensures { λ r. ⌜ r ≡ all (walletTests (walletsIn (now (w .entry)) 0) i) ⌝ }
 {
-    (w[i * WALLET_LEN + ID] != 0) & (w[i * WALLET_LEN + FROZEN] <= 1)
+    (w[i * WALLET_LEN + ID] != 0) & (w[i * WALLET_LEN + FROZEN] <= IS_CLOSED)
 }
 
 pub fn wallets_right(w: &[u64], n: usize) -> bool

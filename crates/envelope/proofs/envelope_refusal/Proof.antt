@@ -22,10 +22,10 @@ seen-requires : tie.Need-seen-requires
 seen-requires c κs = search needs
 
 add-not-yet-valid : tie.Need-add-not-yet-valid
-add-not-yet-valid c = omega (arith, c .before .before .before .before .before .before .before .before .before .before .before .before .before .before .before .before .pre)
+add-not-yet-valid c = omega (arith, c .before .before .before .before .before .before .before .before .before .before .before .before .before .before .before .before .before .pre)
 
 add-window-too-long : tie.Need-add-window-too-long
-add-window-too-long c = omega (arith, c .before .before .before .before .before .before .before .before .before .before .before .before .before .before .before .before .before .before .before .pre)
+add-window-too-long c = omega (arith, c .before .before .before .before .before .before .before .before .before .before .before .before .before .before .before .before .before .before .before .before .pre)
 
 choose-requires : tie.Need-choose-requires
 choose-requires c κs = search needs
@@ -53,10 +53,10 @@ choose-requires-8 c κs = search needs
 
 returns : tie.Need-returns
 returns c =
-    let p = c .before .before .before .before .before .before .before .before .before .before .before .before .before .before .before .before .before .before .before .before .before .before .before .before .before .before .before .before .pre in
+    let p = c .before .before .before .before .before .before .before .before .before .before .before .before .before .before .before .before .before .before .before .before .before .before .before .before .before .before .before .before .before .pre in
     λ K. refusal-by (K .edition) _ (K .wallets) (K .escrows) (K .receipts) _ _ _ _ _ _ _ _ _ _ _
     (p .2) (p .3)
-    (c .before .before .before .before .before .before .before .before .before .before .before .before .before .before .before .before .before .before .before .before .before .before .seen .ensures)
+    (c .before .before .before .before .before .before .before .before .before .before .before .before .before .before .before .before .before .before .before .before .before .before .before .seen .ensures)
     (c .before .before .before .before .before .before .before .choose .ensures)
     (c .before .before .before .before .before .before .choose2 .ensures)
     (c .before .before .before .before .before .choose3 .ensures)

@@ -1,31 +1,25 @@
--- `holds::claim_refusal` meets its contract.
-use Prim.Native.Nat.{_≤_}
-use native.Mathlib.Omega.{arith}
-use Rattle.rules.specs.Limits.{LAST-TIME-MS}
-use Rattle.rows.specs.Numbered.{Names}
-use Rattle.holds.proofs.Numbers.{names-row}
-use Rattle.holds.proofs.Claim.{claim-by}
+-- `holds::claim_refusal` meets its contract: each arm is told what was found of the provider and of the requester.
+use mathlib.Core.Path.{_≡_, refl, sym, ap, _∙_}
+use Prim.Native.Nat.{ℕ}
+use denote.Ref.{now}
+use Rattle.rules.specs.Ledger.{Ledger, ledgerOf}
+use Rattle.rules.specs.Refusals.{first, operationRefusals}
+use Rattle.rules.specs.declared.WalletState.{WalletState}
+use Rattle.holds.specs.Terms.{termRefusals}
+use Rattle.holds.proofs.Claim.{byRequester, byParties, claim-by, claim-invalid}
 use borrow.Author.Needs.{needs}
 use Rattle.holds.proofs.claim_refusal.Statement.{statement}
 use Rattle.holds.proofs.claim_refusal.Tie as tie
 use Rattle.holds.proofs.claim_refusal.Reads as reads
 use Rattle.holds.proofs.claim_refusal.Lts as lts
-use Rattle.holds.proofs.escrow_named.Reads as escrow-named-reads
-use Rattle.rows.proofs.choose.Reads as choose-reads
-use Rattle.rows.proofs.numbered.escrow.Reads as escrow-reads
+use Rattle.holds.proofs.terms_refusal.Reads as terms-refusal-reads
 use Rattle.rows.proofs.numbered.find_wallet.Reads as find-wallet-reads
+
+returns : tie.Need-returns
+returns c = claim-invalid _ _ (c .before .before .before .before .before .before .before .before .pre .4) (c .if1 .taken)
 
 shared-slice-read-count : tie.Need-shared-slice-read-count
 shared-slice-read-count c = search needs
-
-shared-slice-read-held : tie.Need-shared-slice-read-held
-shared-slice-read-held c = search needs
-
-shared-slice-read-claimed : tie.Need-shared-slice-read-claimed
-shared-slice-read-claimed c = search needs
-
-shared-slice-read-entries : tie.Need-shared-slice-read-entries
-shared-slice-read-entries c = search needs
 
 find-wallet-requires : tie.Need-find-wallet-requires
 find-wallet-requires c κs = search needs
@@ -33,126 +27,99 @@ find-wallet-requires c κs = search needs
 find-wallet-requires-2 : tie.Need-find-wallet-requires-2
 find-wallet-requires-2 c κs = search needs
 
-escrow-named-requires : tie.Need-escrow-named-requires
-escrow-named-requires c κs = search needs
+enum-told : tie.Need-enum-told
+enum-told c = search needs
 
--- what is read at is the number of a row
-names : (c : tie.After-escrow-named) → Names (c .escrow-named .result .0)
-names c = names-row _ _ _ (c .before .before .before .before .before .before .before .before .before .before .before .before .pre .1) (c .escrow-named .ensures)
+enum-told-2 : tie.Need-enum-told-2
+enum-told-2 c = search needs
 
-escrow-requires : tie.Need-escrow-requires
-escrow-requires c κs = (names c, search needs, search needs)
+enum-told-3 : tie.Need-enum-told-3
+enum-told-3 c = search needs
 
-escrow-requires-2 : tie.Need-escrow-requires-2
-escrow-requires-2 c κs = (names (c .before), search needs, search needs)
+enum-told-4 : tie.Need-enum-told-4
+enum-told-4 c = search needs
 
-escrow-requires-3 : tie.Need-escrow-requires-3
-escrow-requires-3 c κs = (names (c .before .before), search needs, search needs)
+enum-told-5 : tie.Need-enum-told-5
+enum-told-5 c = search needs
 
-escrow-requires-4 : tie.Need-escrow-requires-4
-escrow-requires-4 c κs = (names (c .before .before .before), search needs, search needs)
+enum-told-6 : tie.Need-enum-told-6
+enum-told-6 c = search needs
 
--- a time, so that the windows after it do not wrap
-issued : (c : tie.After-escrow-named) → c .before .before .before .before .before .before .before .before .before .before .before .before .args .s .issued ≤ LAST-TIME-MS
-issued c = c .before .before .before .before .before .before .before .before .before .before .before .before .pre .3
+enum-told-7 : tie.Need-enum-told-7
+enum-told-7 c = search needs
 
-add-window-too-short : tie.Need-add-window-too-short
-add-window-too-short c = omega (arith, issued (c .before .before .before .before .before .before .before .before .before .before .before .before))
+terms-refusal-requires : tie.Need-terms-refusal-requires
+terms-refusal-requires c κs = search needs
 
-add-window-too-long : tie.Need-add-window-too-long
-add-window-too-long c = omega (arith, issued (c .before .before .before .before .before .before .before .before .before .before .before .before .before .before))
+enum-told-8 : tie.Need-enum-told-8
+enum-told-8 c = search needs
 
-choose-requires : tie.Need-choose-requires
-choose-requires c κs = search needs
+enum-told-9 : tie.Need-enum-told-9
+enum-told-9 c = search needs
 
-choose-requires-2 : tie.Need-choose-requires-2
-choose-requires-2 c κs = search needs
+-- the ledger that is lent, and what an arm answers
+abbrev L : tie.After-find-wallet2 → Ledger
+L c =
+    let start = c .before .before .before .before .before .before .before .before .before .before .before .args in
+    ledgerOf (start .edition) (now (start .header)) (now (start .wallets)) (now (start .escrows)) (now (start .receipts)) (now (start .journal))
 
-choose-requires-3 : tie.Need-choose-requires-3
-choose-requires-3 c κs = search needs
+abbrev rest : tie.After-find-wallet2 → ℕ
+rest c = first (termRefusals (L c) (c .before .before .before .before .before .before .before .before .before .before .before .args .s))
 
-choose-requires-4 : tie.Need-choose-requires-4
-choose-requires-4 c κs = search needs
+answers : (c : tie.After-find-wallet2) (x : ℕ) → x ≡ byParties (rest c) (c .before .find-wallet .result) (c .find-wallet2 .result)
+    → x ≡ first (operationRefusals (L c) (c .before .before .before .before .before .before .before .before .before .before .before .args .s))
+answers c x e =
+    claim-by _ _ _ _ _ _ _ _ _ _ (c .before .before .before .before .before .before .before .before .before .before .before .pre .4) (c .before .before .before .if1 .left) (c .before .find-wallet .ensures) (c .find-wallet2 .ensures) e
 
-choose-requires-5 : tie.Need-choose-requires-5
-choose-requires-5 c κs = search needs
+-- by both parties, the provider first
+by : (c : tie.After-find-wallet2) (x : ℕ) (provider requester : WalletState) → c .before .find-wallet .result ≡ provider → c .find-wallet2 .result ≡ requester
+    → x ≡ byParties (rest c) provider requester → x ≡ first (operationRefusals (L c) (c .before .before .before .before .before .before .before .before .before .before .before .args .s))
+by c x provider requester p q e =
+    answers c x (e ∙ sym (ap (λ (z : WalletState). byParties (rest c) z requester) p) ∙ sym (ap (byParties (rest c) (c .before .find-wallet .result)) q))
 
-choose-requires-6 : tie.Need-choose-requires-6
-choose-requires-6 c κs = search needs
+returns-2 : tie.Need-returns-2
+returns-2 c = by (c .before .before .before .before) _ _ _ (c .before .before .enum-told .given .1) (c .enum-told2 .given .1) refl
 
-choose-requires-7 : tie.Need-choose-requires-7
-choose-requires-7 c κs = search needs
+returns-3 : tie.Need-returns-3
+returns-3 c = by (c .before .before .before .before) _ _ _ (c .before .before .enum-told .given .1) (c .enum-told3 .given .1) refl
 
-choose-requires-8 : tie.Need-choose-requires-8
-choose-requires-8 c κs = search needs
+returns-4 : tie.Need-returns-4
+returns-4 c = by (c .before .before .before .before) _ _ _ (c .before .before .enum-told .given .1) (c .enum-told4 .given .1) refl
 
-choose-requires-9 : tie.Need-choose-requires-9
-choose-requires-9 c κs = search needs
+returns-5 : tie.Need-returns-5
+returns-5 c = by (c .before .before .before .before) _ _ _ (c .before .before .enum-told5 .given .1) (c .enum-told6 .given .1) refl
 
-choose-requires-10 : tie.Need-choose-requires-10
-choose-requires-10 c κs = search needs
+returns-6 : tie.Need-returns-6
+returns-6 c = by (c .before .before .before .before .before) _ _ _ (c .before .before .before .enum-told5 .given .1) (c .before .enum-told7 .given .1) (c .terms-refusal .ensures (L (c .before .before .before .before .before)))
 
-choose-requires-11 : tie.Need-choose-requires-11
-choose-requires-11 c κs = search needs
+returns-7 : tie.Need-returns-7
+returns-7 c = by (c .before .before .before .before) _ _ _ (c .before .before .enum-told5 .given .1) (c .enum-told8 .given .1) refl
 
-choose-requires-12 : tie.Need-choose-requires-12
-choose-requires-12 c κs = search needs
-
-returns : tie.Need-returns
-returns c =
-    let late = c .before .before .before .before .before .before in
-    let read = late .before .before .before .before .before .before .before .before .before .before .before .before .before .before .before .before .before .before .before .before .before .before in
-    let found = read .before .before .before .before .before in
-    let start = found .before .before .before .before .before .before .before .before .before .before .before in
-    claim-by _ _ _ _ _ _ _ _ _ _ _ _ _ _ _ _ _ _ _ _ _ _ _ _ _ _
-    (start .pre .4)
-    (found .before .find-wallet .ensures)
-    (found .find-wallet2 .ensures)
-    (read .before .before .before .before .escrow-named .ensures)
-    (read .before .before .before .escrow .ensures)
-    (read .before .before .escrow2 .ensures)
-    (read .before .escrow3 .ensures)
-    (read .escrow4 .ensures)
-    (late .before .before .before .before .before .choose .ensures)
-    (late .before .before .before .before .choose2 .ensures)
-    (late .before .before .before .choose3 .ensures)
-    (late .before .before .choose4 .ensures)
-    (late .before .choose5 .ensures)
-    (late .choose6 .ensures)
-    (c .before .before .before .before .before .choose7 .ensures)
-    (c .before .before .before .before .choose8 .ensures)
-    (c .before .before .before .choose9 .ensures)
-    (c .before .before .choose10 .ensures)
-    (c .before .choose11 .ensures)
-    (c .choose12 .ensures)
+returns-8 : tie.Need-returns-8
+returns-8 c = answers (c .before .before) _ (sym (ap (λ (z : WalletState). byParties (rest (c .before .before)) z (c .before .before .find-wallet2 .result)) (c .enum-told9 .given .1)))
 
 pub claim-refusal-spec : {M : Type 1} → statement M
 claim-refusal-spec =
     tie.close
     (tie.spec
+    returns
     shared-slice-read-count
-    shared-slice-read-held
-    shared-slice-read-claimed
-    shared-slice-read-entries
     find-wallet-requires
     find-wallet-requires-2
-    escrow-named-requires
-    escrow-requires
-    escrow-requires-2
-    escrow-requires-3
-    escrow-requires-4
-    add-window-too-short
-    add-window-too-long
-    choose-requires
-    choose-requires-2
-    choose-requires-3
-    choose-requires-4
-    choose-requires-5
-    choose-requires-6
-    choose-requires-7
-    choose-requires-8
-    choose-requires-9
-    choose-requires-10
-    choose-requires-11
-    choose-requires-12
-    returns)
+    enum-told
+    enum-told-2
+    enum-told-3
+    enum-told-4
+    enum-told-5
+    enum-told-6
+    enum-told-7
+    terms-refusal-requires
+    enum-told-8
+    enum-told-9
+    returns-2
+    returns-3
+    returns-4
+    returns-5
+    returns-6
+    returns-7
+    returns-8)

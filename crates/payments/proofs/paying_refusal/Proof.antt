@@ -1,15 +1,23 @@
--- `payments::paying_refusal` meets its contract.
-use native.Mathlib.Omega.{arith}
-use Rattle.rows.specs.Numbered.{Names}
+-- `payments::paying_refusal` meets its contract: each arm is told what was found of the sender.
+use mathlib.Core.Path.{_≡_, sym, ap, _∙_}
+use mathlib.Core.Logic.{⊎-elim}
+use Prim.Native.Nat.{_+_}
+use lib.ListN.{getD}
+use denote.Ref.{now}
+use Rattle.rules.specs.Limits.{WALLETS}
+use Rattle.rules.specs.Ledger.{rowOf, ledgerOf}
+use Rattle.rules.specs.Refusals.{first}
+use Rattle.rules.specs.declared.WalletState.the-variants.{Live}
+use Rattle.rules.proofs.Wallets.{look-says}
 use Rattle.rows.proofs.Found.{names-found}
-use Rattle.payments.proofs.Paying.{paying-by}
+use Rattle.payments.specs.Sending.{sendingRefusals}
+use Rattle.payments.proofs.Paying.{bySender, paying-by}
 use borrow.Author.Needs.{needs}
 use Rattle.payments.proofs.paying_refusal.Statement.{statement}
 use Rattle.payments.proofs.paying_refusal.Tie as tie
 use Rattle.payments.proofs.paying_refusal.Reads as reads
 use Rattle.payments.proofs.paying_refusal.Lts as lts
-use Rattle.payments.proofs.sums.counted.Reads as counted-reads
-use Rattle.payments.proofs.sums.exceeds.Reads as exceeds-reads
+use Rattle.payments.proofs.sending_refusal.Reads as sending-refusal-reads
 use Rattle.rows.proofs.choose.Reads as choose-reads
 use Rattle.rows.proofs.numbered.find_wallet.Reads as find-wallet-reads
 use Rattle.rows.proofs.numbered.wallet.Reads as wallet-reads
@@ -17,49 +25,26 @@ use Rattle.rows.proofs.numbered.wallet.Reads as wallet-reads
 shared-slice-read-count : tie.Need-shared-slice-read-count
 shared-slice-read-count c = search needs
 
-shared-slice-read-held : tie.Need-shared-slice-read-held
-shared-slice-read-held c = search needs
-
-shared-slice-read-entries : tie.Need-shared-slice-read-entries
-shared-slice-read-entries c = search needs
-
 find-wallet-requires : tie.Need-find-wallet-requires
 find-wallet-requires c κs = search needs
 
-find-wallet-requires-2 : tie.Need-find-wallet-requires-2
-find-wallet-requires-2 c κs = search needs
+enum-told : tie.Need-enum-told
+enum-told c = search needs
 
--- the sender's number is that of a row, or of the one behind the last
-names : (c : tie.After-find-wallet2) → Names (c .find-wallet2 .result .0)
-names c = names-found _ _ _ _ (c .before .before .before .before .before .before .before .before .before .pre .1) (c .find-wallet2 .ensures)
+enum-known-sender : tie.Need-enum-known-sender
+enum-known-sender c = search needs
+
+-- a live sender's number
+sends : (c : tie.After-known-told) → c .before .sender .given .0 .0 .0 ≡ rowOf (now (c .before .before .before .before .before .before .before .before .before .before .before .before .before .args .wallets)) (getD (now (c .before .before .before .before .before .before .before .before .before .before .before .before .before .args .header)) WALLETS 0) (c .before .before .before .before .before .before .before .before .before .before .before .before .before .args .s .signer) + 1
+sends c = look-says _ _ _ _ (sym (c .before .sender .given .1) ∙ c .before .before .before .before .before .before .before .find-wallet .ensures) .2
 
 wallet-requires : tie.Need-wallet-requires
-wallet-requires c κs = (names c, search needs)
+wallet-requires c κs = (names-found _ _ _ _ (c .before .before .before .before .before .before .before .before .before .before .before .before .before .pre .1) (sends c), search needs)
 
-wallet-requires-2 : tie.Need-wallet-requires-2
-wallet-requires-2 c κs = (names (c .before), search needs)
-
-wallet-requires-3 : tie.Need-wallet-requires-3
-wallet-requires-3 c κs = (names (c .before .before), search needs)
-
-wallet-requires-4 : tie.Need-wallet-requires-4
-wallet-requires-4 c κs = (names (c .before .before .before), search needs)
-
-counted-requires : tie.Need-counted-requires
-counted-requires c κs = search needs
-
-exceeds-requires : tie.Need-exceeds-requires
-exceeds-requires c κs = search needs
-
-add-deadline-exceeds-max : tie.Need-add-deadline-exceeds-max
-add-deadline-exceeds-max c =
-    let read = c .before .before .before .before .before .before .before .before .before .before .before .before .before .before .before .before in
-    omega (arith, read .before .before .before .before .before .before .before .before .before .pre .4)
-
-div-escrow-table-full : tie.Need-div-escrow-table-full
-div-escrow-table-full c =
-    let read = c .before .before .before .before .before .before .before .before .before .before .before .before .before .before .before .before .before .before .before in
-    omega (arith, read .before .before .before .before .before .before .before .before .before .pre .6 .escrow)
+sending-refusal-requires : tie.Need-sending-refusal-requires
+sending-refusal-requires c κs =
+    let pre = c .before .before .before .before .before .before .before .before .before .before .before .before .before .before .pre in
+    (pre .0, pre .1, pre .2, pre .3, pre .4, pre .6, sends (c .before))
 
 choose-requires : tie.Need-choose-requires
 choose-requires c κs = search needs
@@ -67,92 +52,43 @@ choose-requires c κs = search needs
 choose-requires-2 : tie.Need-choose-requires-2
 choose-requires-2 c κs = search needs
 
+enum-told-2 : tie.Need-enum-told-2
+enum-told-2 c = search needs
+
 choose-requires-3 : tie.Need-choose-requires-3
 choose-requires-3 c κs = search needs
 
 choose-requires-4 : tie.Need-choose-requires-4
 choose-requires-4 c κs = search needs
 
-choose-requires-5 : tie.Need-choose-requires-5
-choose-requires-5 c κs = search needs
-
-choose-requires-6 : tie.Need-choose-requires-6
-choose-requires-6 c κs = search needs
-
-choose-requires-7 : tie.Need-choose-requires-7
-choose-requires-7 c κs = search needs
-
-choose-requires-8 : tie.Need-choose-requires-8
-choose-requires-8 c κs = search needs
-
-choose-requires-9 : tie.Need-choose-requires-9
-choose-requires-9 c κs = search needs
-
-choose-requires-10 : tie.Need-choose-requires-10
-choose-requires-10 c κs = search needs
-
-choose-requires-11 : tie.Need-choose-requires-11
-choose-requires-11 c κs = search needs
-
-choose-requires-12 : tie.Need-choose-requires-12
-choose-requires-12 c κs = search needs
-
 returns : tie.Need-returns
 returns c =
-    let late = c .before .before .before .before .before .before in
-    let read = late .before .before .before .before .before .before .before .before .before .before .before .before .before .before .before .before .before .before .before in
-    let found = read .before .before .before .before .before .before in
-    let start = found .before .before .before .before .before .before .before .before .before in
-    λ K. paying-by _ _ _ _ (K .receipts) _ _ _ _ _ _ _ _ _ _ _ _ _ _ _ _ _ _ _ _ _ _
+    let came = c .before .match .came in
+    let found = c .before .before .before .before .before .before in
+    let start = found .before .before .before .before .before .before in
+    λ K.
+    let by = bySender _ _ (first (sendingRefusals (ledgerOf _ _ _ _ (K .receipts) _) _)) in
+    paying-by _ _ _ _ (K .receipts) _ _ _ _ _
     (start .pre .5)
-    (found .before .find-wallet .ensures)
-    (found .find-wallet2 .ensures)
-    (read .before .before .before .before .before .wallet .ensures)
-    (read .before .before .before .before .wallet2 .ensures)
-    (read .before .before .before .wallet3 .ensures)
-    (read .before .before .wallet4 .ensures)
-    (read .before .counted .ensures)
-    (read .exceeds .ensures)
-    (late .before .before .before .before .before .choose .ensures)
-    (late .before .before .before .before .choose2 .ensures)
-    (late .before .before .before .choose3 .ensures)
-    (late .before .before .choose4 .ensures)
-    (late .before .choose5 .ensures)
-    (late .choose6 .ensures)
-    (c .before .before .before .before .before .choose7 .ensures)
-    (c .before .before .before .before .choose8 .ensures)
-    (c .before .before .before .choose9 .ensures)
-    (c .before .before .choose10 .ensures)
-    (c .before .choose11 .ensures)
-    (c .choose12 .ensures)
+    (found .find-wallet .ensures)
+    (⊎-elim (λ x. x .2 ∙ sym (ap by (x .1 .given .1)))
+    (⊎-elim (λ x. x .7 ∙ x .6 .ensures ∙ rw (x .3 .ensures, x .5 .ensures, x .4 .ensures K) (sym (ap by (x .1 .given .1))))
+    (λ x. x .3 ∙ x .2 .ensures ∙ sym (ap by (x .1 .given .1)))) came)
+    (c .choose4 .ensures)
 
 pub paying-refusal-spec : {M : Type 1} → statement M
 paying-refusal-spec =
     tie.close
     (tie.spec
     shared-slice-read-count
-    shared-slice-read-held
-    shared-slice-read-entries
     find-wallet-requires
-    find-wallet-requires-2
+    enum-told
+    enum-known-sender
     wallet-requires
-    wallet-requires-2
-    wallet-requires-3
-    wallet-requires-4
-    counted-requires
-    exceeds-requires
-    add-deadline-exceeds-max
-    div-escrow-table-full
+    sending-refusal-requires
     choose-requires
     choose-requires-2
+    enum-told-2
     choose-requires-3
     choose-requires-4
-    choose-requires-5
-    choose-requires-6
-    choose-requires-7
-    choose-requires-8
-    choose-requires-9
-    choose-requires-10
-    choose-requires-11
-    choose-requires-12
     returns)

@@ -2,16 +2,17 @@
 use mathlib.Core.List.{[]}
 use Prim.Native.Nat.{_≤_}
 use native.Mathlib.Omega.{arith}
-use Rattle.rules.specs.Limits.{TRANSFER, RELEASE, ACCEPT}
+use Rattle.rules.specs.Limits.{GRANT, TRANSFER, RELEASE, CLAIM, ACCEPT}
 use Rattle.rules.specs.Ledger.{ledger, ledgerOf}
-use Rattle.refusals.proofs.Given.{header-there, wallets-few, escrows-few, receipts-few, wallets-fit, entries, op-low, op-high, now-time, issued-time}
-use Rattle.refusals.proofs.Order.{either, no-more}
+use Rattle.refusals.proofs.Given.{header-there, wallets-few, escrows-few, receipts-few, wallets-fit, escrows-fit, entries, op-low, op-high, now-time, issued-time}
+use Rattle.refusals.proofs.Order.{either, above, no-more}
 use borrow.Author.Needs.{needs}
 use Rattle.refusals.proofs.operation_refusal.Statement.{statement}
 use Rattle.refusals.proofs.operation_refusal.Tie as tie
 use Rattle.refusals.proofs.operation_refusal.Reads as reads
 use Rattle.refusals.proofs.operation_refusal.Lts as lts
 use Rattle.refusals.proofs.admin.caps_refusal.Reads as caps-refusal-reads
+use Rattle.refusals.proofs.admin.close_refusal.Reads as close-refusal-reads
 use Rattle.refusals.proofs.admin.freeze_refusal.Reads as freeze-refusal-reads
 use Rattle.refusals.proofs.admin.sweep_refusal.Reads as sweep-refusal-reads
 use Rattle.payments.proofs.grant_refusal.Reads as grant-refusal-reads
@@ -43,10 +44,15 @@ caps-refusal-requires c κs =
     let start = c .before .before .before .before .before .before in
     (header-there (start .pre), wallets-fit (start .pre), c .match .keys5)
 
+close-refusal-requires : tie.Need-close-refusal-requires
+close-refusal-requires c κs =
+    let start = c .before .before .before .before .before .before in
+    (header-there (start .pre), wallets-few (start .pre), wallets-fit (start .pre), escrows-fit (start .pre), c .match .keys6, start .pre .sized)
+
 paying-refusal-requires : tie.Need-paying-refusal-requires
 paying-refusal-requires c κs =
     let start = c .before .before .before .before .before .before .before .before in
-    let low : TRANSFER ≤ start .args .s .op = omega (arith, c .before .before .match .rest .0 .0 .0 .0 .1) in
+    let low : TRANSFER ≤ start .args .s .op = above GRANT _ (op-low (start .pre)) (c .before .before .match .rest .0 .0 .0 .0 .0 .1) in
     (header-there (start .pre), wallets-few (start .pre), wallets-fit (start .pre), entries (start .pre), now-time (start .pre), either TRANSFER _ low (c .if2 .taken), start .pre .sized)
 
 closing-refusal-requires : tie.Need-closing-refusal-requires
@@ -57,7 +63,7 @@ closing-refusal-requires c κs =
 reply-refusal-requires : tie.Need-reply-refusal-requires
 reply-refusal-requires c κs =
     let start = c .before .before .before .before .before .before .before .before .before .before in
-    let low : ACCEPT ≤ start .args .s .op = omega (arith, c .before .before .before .before .match .rest .0 .0 .0 .1) in
+    let low : ACCEPT ≤ start .args .s .op = above CLAIM _ (c .before .if3 .left) (c .before .before .before .before .match .rest .0 .0 .0 .0 .1) in
     (header-there (start .pre), receipts-few (start .pre), either ACCEPT _ low (c .if4 .taken))
 
 returns : tie.Need-returns
@@ -76,26 +82,29 @@ returns-5 : tie.Need-returns-5
 returns-5 c = c .caps-refusal .ensures (ledgerOf _ [] [] _ _ [])
 
 returns-6 : tie.Need-returns-6
-returns-6 c = c .paying-refusal .ensures (ledger [] [] [] _ [])
+returns-6 c = c .close-refusal .ensures (ledger [] [] [] _ [])
 
 returns-7 : tie.Need-returns-7
-returns-7 c = c .closing-refusal .ensures (ledger [] _ [] _ [])
+returns-7 c = c .paying-refusal .ensures (ledger [] [] [] _ [])
 
 returns-8 : tie.Need-returns-8
-returns-8 c = c .reply-refusal .ensures (ledgerOf _ [] _ _ [] [])
+returns-8 c = c .closing-refusal .ensures (ledger [] _ [] _ [])
 
 returns-9 : tie.Need-returns-9
-returns-9 c =
+returns-9 c = c .reply-refusal .ensures (ledgerOf _ [] _ _ [] [])
+
+returns-10 : tie.Need-returns-10
+returns-10 c =
     let start = c .before .before .before .before .before .before .before in
     let low : 1 ≤ start .args .s .op = op-low (start .pre) in
     absurd (omega arith)
 
-returns-10 : tie.Need-returns-10
-returns-10 c =
+returns-11 : tie.Need-returns-11
+returns-11 c =
     let matched = c .before .before .before .before in
     let start = matched .before .before .before .before .before .before in
     let no = matched .match .rest in
-    absurd (no-more _ (c .if4 .left) (op-high (start .pre)) (no .0 .0 .1) (no .0 .1) (no .1))
+    absurd (no-more _ (c .if4 .left) (op-high (start .pre)) (no .0 .0 .0 .1) (no .0 .0 .1) (no .0 .1) (no .1))
 
 pub operation-refusal-spec : {M : Type 1} → statement M
 operation-refusal-spec =
@@ -106,6 +115,7 @@ operation-refusal-spec =
     sweep-refusal-requires
     freeze-refusal-requires
     caps-refusal-requires
+    close-refusal-requires
     paying-refusal-requires
     closing-refusal-requires
     reply-refusal-requires
@@ -118,4 +128,5 @@ operation-refusal-spec =
     returns-7
     returns-8
     returns-9
-    returns-10)
+    returns-10
+    returns-11)

@@ -1,5 +1,7 @@
--- `admin::caps_refusal` meets its contract.
-use Rattle.refusals.proofs.Others.{caps-by}
+-- `admin::caps_refusal` meets its contract: each arm is told what was found of the target.
+use mathlib.Core.Path.{sym, ap, _∙_}
+use mathlib.Core.Logic.{⊎-elim}
+use Rattle.refusals.proofs.Others.{byTarget, caps-by}
 use borrow.Author.Needs.{needs}
 use Rattle.refusals.proofs.admin.caps_refusal.Statement.{statement}
 use Rattle.refusals.proofs.admin.caps_refusal.Tie as tie
@@ -20,22 +22,24 @@ find-wallet-requires c κs = search needs
 choose-requires : tie.Need-choose-requires
 choose-requires c κs = search needs
 
+enum-told : tie.Need-enum-told
+enum-told c = search needs
+
+enum-told-2 : tie.Need-enum-told-2
+enum-told-2 c = search needs
+
+enum-told-3 : tie.Need-enum-told-3
+enum-told-3 c = search needs
+
 choose-requires-2 : tie.Need-choose-requires-2
 choose-requires-2 c κs = search needs
 
-choose-requires-3 : tie.Need-choose-requires-3
-choose-requires-3 c κs = search needs
-
 returns : tie.Need-returns
 returns c =
-    let read = c .before .before .before .before .before .before in
-    let start = read .before .before .before .before .before .before in
-    λ K. caps-by (K .edition) _ _ (K .escrows) (K .receipts) _ _ _ _ _ _
-    (start .pre .2)
-    (read .find-wallet .ensures)
-    (c .before .before .choose .ensures)
-    (c .before .choose2 .ensures)
-    (c .choose3 .ensures)
+    λ K. caps-by (K .edition) _ _ (K .escrows) (K .receipts) _ _ _ _ _ _ (c .before .before .before .before .before .before .before .before .before .before .before .pre .2) (c .before .before .before .before .before .find-wallet .ensures) (c .before .before .choose .ensures)
+    (⊎-elim (λ x. x .2 ∙ sym (ap (byTarget _ _) (x .1 .given .1)))
+    (⊎-elim (λ x. x .2 ∙ sym (ap (byTarget _ _) (x .1 .given .1))) (λ x. x .2 ∙ sym (ap (byTarget _ _) (x .1 .given .1)))) (c .before .match .came))
+    (c .choose2 .ensures)
 
 pub caps-refusal-spec : {M : Type 1} → statement M
 caps-refusal-spec =
@@ -45,6 +49,8 @@ caps-refusal-spec =
     shared-slice-read-entries
     find-wallet-requires
     choose-requires
+    enum-told
+    enum-told-2
+    enum-told-3
     choose-requires-2
-    choose-requires-3
     returns)
