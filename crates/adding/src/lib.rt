@@ -247,7 +247,7 @@ pub fn adds(
             [0, 0, amount, 0, 0]
         },
         SWEEP => sweep_adds(edition, header, escrows, receipts, s.now, s.amount),
-        // an open, a claim, a dispute, a freeze and new caps
+        // an open, a claim, a dispute, a freeze, new caps and a close
         _ => [0, 0, 0, 0, 0],
     }
 }

@@ -1,16 +1,18 @@
--- Wallets under the moves: the number that a search gives, a missing wallet that is made, and credits that move from one to another.
+-- Wallets under the moves: the number that looking one up gives, a missing wallet that is made, and credits that move from one to another.
 use mathlib.Core.Path.{_≡_}
 use mathlib.Core.Logic.{_≢_}
 use mathlib.Core.List.{List}
+use mathlib.Core.Bool.{true, false}
 use Prim.Native.Nat.{ℕ, _+_, _-_, _<_, _≤_, _^_}
 use native.Mathlib.Decide.{ℕ-discrete, decLt}
 use native.Mathlib.Omega.{arith}
 use lib.ListN.{length, getD, set}
 use lib.Seq.{getD-set-same, getD-set-other, set-out}
-use borrow.Author.Tests.{lt-ltb, le-ltb}
+use lib.Dec.{ltb}
+use borrow.Author.Tests.{ltb-false}
 use Rattle.rules.specs.Limits.{WALLET-LEN, WALLETS, ID}
 use Rattle.rules.specs.Table.{word, put, putRow}
-use Rattle.rules.specs.Ledger.{Ledger, putHead, putWallet, newWallet}
+use Rattle.rules.specs.Ledger.{Ledger, rowOf, putHead, putWallet, newWallet}
 use Rattle.rules.specs.Settle.{blankWallet, ensureWallet, raise, lower}
 use Rattle.rules.proofs.Accounts.{row-le, row-put}
 use Rattle.rules.proofs.UpTo.{upToWallets}
@@ -26,24 +28,23 @@ wallet-named h w id number c x = record { low = omega arith; high = omega (arith
 
 -- a wallet that is there, and one that is made
 pub ensured-found :
-    (K : Ledger) (h w : List ℕ) (id number : ℕ) → number ≡ rowIn h w id + 1 → number ≤ getD h WALLETS 0
+    (K : Ledger) (h w : List ℕ) (id : ℕ) → ltb (rowIn h w id) (getD h WALLETS 0) ≡ true
     → upToWallets K h w ≡ ensureWallet id (upToWallets K h w)
 unfolding ensureWallet
-ensured-found K h w id number x l =
-    let m : rowIn h w id < getD h WALLETS 0 = omega arith in
-    rw (lt-ltb _ _ m)
+ensured-found K h w id l = rw l
 
 pub ensured-new :
-    (K : Ledger) (h w h′ w′ : List ℕ) (id number : ℕ)
-    → number ≡ rowIn h w id + 1
-    → getD h WALLETS 0 < number
+    (K : Ledger) (h w h′ w′ : List ℕ) (id : ℕ)
+    → ltb (rowIn h w id) (getD h WALLETS 0) ≡ false
     → h′ ≡ set h WALLETS (getD h WALLETS 0 + 1)
     → w′ ≡ putRow w WALLET-LEN (getD h WALLETS 0) (blankWallet id)
     → upToWallets K h′ w′ ≡ ensureWallet id (upToWallets K h w)
 unfolding ensureWallet newWallet putHead
-ensured-new K h w h′ w′ id number x l p q =
-    let m : getD h WALLETS 0 ≤ rowIn h w id = omega arith in
-    rw (le-ltb _ _ m, p, q)
+ensured-new K h w h′ w′ id l p q = rw (l, p, q)
+
+-- a missing wallet's number is that of the next row
+pub next-row : (w : List ℕ) (n id : ℕ) → ltb (rowOf w n id) n ≡ false → n + 1 ≡ rowOf w n id + 1
+next-row w n id l = omega (arith, ltb-false (rowOf w n id) n l, row-le w n id)
 
 -- what one wallet has less does not make another wrap, nor itself
 set-fits : (w : List ℕ) (i v j amount : ℕ) → getD w j 0 + amount < 2 ^ 64 → v + amount < 2 ^ 64 → getD (set w i v) j 0 + amount < 2 ^ 64

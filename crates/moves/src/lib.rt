@@ -5,6 +5,7 @@ use rules::Edition;
 use rules::EscrowNumber;
 use rules::ReceiptNumber;
 use rules::WalletNumber;
+use rules::WalletState;
 use rules::limits::ACCEPTED;
 use rules::limits::BALANCE;
 use rules::limits::DEFAULT_DAILY_CAP_MICRO;
@@ -78,24 +79,41 @@ pub fn move_credits(
     raise(wallets, to, j, amount);
 }
 
-// The wallet of an id. A missing one is made: zeros and the usual caps.
+// The wallet of an id. A missing one is made: zeros and the usual caps. A closed one is not missing, and gets no second row.
 pub fn ensure_wallet(header: &mut [u64], wallets: &mut [u64], id: u64) -> WalletNumber
     requires { ⌜ Counted (now header) (now wallets) ⌝ }
     ensures { λ x. ⌜ (x .0 ≡ rowIn (now (header .entry)) (now (wallets .entry)) id + 1) × ((K : Ledger) → let L = any K with-header header with-wallets wallets in L .exit ≡ ensureWallet id (L .entry)) ⌝ }
 {
     let written = header[WALLETS];
-    let number = numbered::find_wallet(wallets, written as usize, id);
-    if number.0 <= written {
-        return number;
+    let found = numbered::find_wallet(wallets, written as usize, id);
+    match found {
+        WalletState::Missing => {
+            let made = append(
+                header,
+                wallets,
+                WALLET_LEN,
+                WALLETS,
+                &[id, 0, 0, 0, DEFAULT_TX_CAP_MICRO, DEFAULT_DAILY_CAP_MICRO],
+            );
+            WalletNumber(made)
+        },
+        WalletState::Live(wallet) => wallet,
+        WalletState::Closed(wallet) => wallet,
     }
-    append(
-        header,
-        wallets,
-        WALLET_LEN,
-        WALLETS,
-        &[id, 0, 0, 0, DEFAULT_TX_CAP_MICRO, DEFAULT_DAILY_CAP_MICRO],
-    );
-    number
+}
+
+// The wallet of a party to an escrow, live or closed: a sound ledger does not ask a closed one to be empty, so what ends treats its row as any other.
+// A sound ledger has it; where it is missing, the definitions look behind the last row.
+fn party(wallets: &[u64], written: usize, id: u64) -> WalletNumber
+    requires { ⌜ written * WALLET-LEN ≤ length (now wallets) ⌝ }
+    ensures { λ x. ⌜ x .0 ≡ rowOf (now (wallets .entry)) written id + 1 ⌝ }
+{
+    let found = numbered::find_wallet(wallets, written, id);
+    match found {
+        WalletState::Missing => WalletNumber(written as u64 + 1),
+        WalletState::Live(number) => number,
+        WalletState::Closed(number) => number,
+    }
 }
 
 // Whom an ended escrow pays: the recipient if it is released, else the sender, whose wallet is known.
@@ -111,7 +129,7 @@ fn payee(
     ensures { λ x. ⌜ x .0 ≡ rowOf (now (wallets .entry)) written (cond (eqb state RELEASED) to from) + 1 ⌝ }
 {
     if state == RELEASED {
-        numbered::find_wallet(wallets, written, to)
+        party(wallets, written, to)
     } else {
         sender
     }
@@ -152,7 +170,7 @@ pub fn end_escrow(
     let to = numbered::escrow(edition, escrows, number, TO);
     let amount = numbered::escrow(edition, escrows, number, ESCROW_AMOUNT);
     let written = header[WALLETS] as usize;
-    let sender = numbered::find_wallet(wallets, written, from);
+    let sender = party(wallets, written, from);
     let paid = payee(wallets, written, state, sender, from, to);
     close_escrow(edition, escrows, number, state, time, signer);
     move_credits(wallets, sender, LOCKED, paid, BALANCE, amount);

@@ -26,10 +26,10 @@ module _ (h w h₁ w₁ : List ℕ) (s : Submission) (signer : ℕ) (ready : Pay
 
   -- the signer's wallet is where it was, with the words that it had
   pub still : signer ≡ rowIn h₁ w₁ (s .signer) + 1
-  still = omega (arith, x, after .rows (s .signer) (ready .signer))
+  still = omega (arith, x, after .rows (s .signer) (ready .signer .there))
 
   pub has : (k : ℕ) → k < WALLET-LEN → word w₁ WALLET-LEN (signer - 1) k ≡ word w WALLET-LEN (rowIn h w (s .signer)) k
-  has k l = rw (row-at h w (s .signer) signer x) (after .words (rowIn h w (s .signer)) k (ready .signer) l)
+  has k l = rw (row-at h w (s .signer) signer x) (after .words (rowIn h w (s .signer)) k (ready .signer .there) l)
 
   pub enough : s .amount ≤ word w₁ WALLET-LEN (signer - 1) BALANCE
   enough = rw (has BALANCE (lit< tt)) (ready .enough)

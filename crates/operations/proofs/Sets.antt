@@ -1,14 +1,14 @@
--- Operations that set words and move no credits: a receipt claimed, a flag, the caps.
+-- Operations that set words and move no credits: a receipt claimed, a flag, the caps, a wallet closed.
 use mathlib.Core.Path.{_≡_}
 use mathlib.Core.List.{List, [], _∷_}
 use Prim.Native.Nat.{ℕ, _+_, _-_, _<_, _^_}
 use lib.ListN.{getD, set}
 use borrow.Author.Tests.{eq-eqb, ne-eqb}
-use Rattle.rules.specs.Limits.{WALLET-LEN, RECEIPT-LEN, SYSTEM-FROZEN, RECEIPTS, FROZEN, TX-CAP, DAILY-CAP, PENDING, AUTO-OR-FREEZE}
+use Rattle.rules.specs.Limits.{WALLET-LEN, RECEIPT-LEN, SYSTEM-FROZEN, RECEIPTS, FROZEN, TX-CAP, DAILY-CAP, IS-CLOSED, PENDING, AUTO-OR-FREEZE}
 use Rattle.rules.specs.Table.{put, putRow}
 use Rattle.rules.specs.Ledger.{Ledger, setHeader, setReceipts, putHead, putWallet, newReceipt}
 use Rattle.rules.specs.Record.{bit}
-use Rattle.rules.specs.Settle.{claim, freeze, caps, done}
+use Rattle.rules.specs.Settle.{claim, freeze, caps, close, done}
 use Rattle.rules.specs.declared.Submission.{Submission}
 use Rattle.rules.proofs.UpTo.{upToWallets}
 use Rattle.rows.specs.Numbered.{Names}
@@ -52,6 +52,14 @@ pub capped :
     → done 0 (upToWallets K h w₂) ≡ caps s (upToWallets K h w)
 unfolding caps putWallet
 capped K h w w₁ w₂ s target x y z = rw (z, y, row-at h w (s .target) target x)
+
+pub shut :
+    (K : Ledger) (h w w₁ : List ℕ) (s : Submission) (target : ℕ)
+    → target ≡ rowIn h w (s .target) + 1
+    → w₁ ≡ put w WALLET-LEN (target - 1) FROZEN IS-CLOSED
+    → done 0 (upToWallets K h w₁) ≡ close s (upToWallets K h w)
+unfolding close putWallet
+shut K h w w₁ s target x y = rw (y, row-at h w (s .target) target x)
 
 -- a word of the target's wallet can be set
 pub can-set : (h w : List ℕ) (id target k : ℕ) → Counted h w → target ≡ rowIn h w id + 1 → k < 2 ^ 16 → Names target × (k < 2 ^ 16)

@@ -5,6 +5,7 @@ use rules::Edition;
 use rules::EscrowNumber;
 use rules::ReceiptNumber;
 use rules::Submission;
+use rules::WalletState;
 use rules::limits::AUTO_OR_FREEZE;
 use rules::limits::BALANCE;
 use rules::limits::DAILY_CAP;
@@ -12,6 +13,7 @@ use rules::limits::DISPUTED;
 use rules::limits::ESCROWS;
 use rules::limits::FROZEN;
 use rules::limits::GRANTED;
+use rules::limits::IS_CLOSED;
 use rules::limits::IS_OPEN;
 use rules::limits::LOCKED;
 use rules::limits::PENDING;
@@ -26,10 +28,10 @@ ghost use Rattle.rules.specs.Limits.{AUTO-OR-FREEZE};
 ghost use Rattle.rules.specs.Ledger.{Ledger};
 ghost use Rattle.rules.specs.Moments.{any, _of-edition_, _with-header_, _with-wallets_, _with-escrows_, _with-receipts_};
 ghost use Rattle.rules.specs.Record.{bit};
-ghost use Rattle.rules.specs.Settle.{done, grant, transfer, openEscrow, endEscrow, claim, accept, dispute, freeze, caps};
+ghost use Rattle.rules.specs.Settle.{done, grant, transfer, openEscrow, endEscrow, claim, accept, dispute, freeze, caps, close};
 ghost use Rattle.rows.specs.Numbered.{Names};
-ghost use Rattle.moves.specs.Needs.{Counted, Ends, Accepts};
-ghost use Rattle.operations.specs.Needs.{Granting, Paying, Opening, Claiming};
+ghost use Rattle.moves.specs.Needs.{Ends, Accepts};
+ghost use Rattle.operations.specs.Needs.{Granting, Paying, Opening, Claiming, Naming, Freezing};
 
 // Grant raises the target's balance and the granted total.
 pub fn grant(header: &mut [u64], wallets: &mut [u64], s: Submission) -> u64
@@ -48,10 +50,17 @@ pub fn transfer(header: &mut [u64], wallets: &mut [u64], s: Submission) -> u64
     requires { ⌜ Paying (now header) (now wallets) s ⌝ }
     ensures { λ x. ⌜ ((K : Ledger) → let L = any K with-header header with-wallets wallets in done x (L .exit) ≡ transfer s (L .entry)) ⌝ }
 {
-    let signer = numbered::find_wallet(wallets, header[WALLETS] as usize, s.signer);
-    let target = moves::ensure_wallet(header, wallets, s.target);
-    moves::move_credits(wallets, signer, BALANCE, target, BALANCE, s.amount);
-    0
+    let found = numbered::find_wallet(wallets, header[WALLETS] as usize, s.signer);
+    match found {
+        WalletState::Live(signer) => {
+            let target = moves::ensure_wallet(header, wallets, s.target);
+            moves::move_credits(wallets, signer, BALANCE, target, BALANCE, s.amount);
+            0
+        },
+        // 13 and 43 refuse these
+        WalletState::Missing => 0,
+        WalletState::Closed(_) => 0,
+    }
 }
 
 // Open moves balance to locked; the word is the escrow's number.
@@ -65,16 +74,23 @@ pub fn open_escrow(
     requires { ⌜ Opening edition (now header) (now wallets) s ⌝ }
     ensures { λ x. ⌜ ((K : Ledger) → let L = any K of-edition edition with-header header with-wallets wallets with-escrows escrows in done x (L .exit) ≡ openEscrow s (L .entry)) ⌝ }
 {
-    let signer = numbered::find_wallet(wallets, header[WALLETS] as usize, s.signer);
-    moves::ensure_wallet(header, wallets, s.target);
-    moves::move_credits(wallets, signer, BALANCE, signer, LOCKED, s.amount);
-    moves::append(
-        header,
-        escrows,
-        edition.escrow,
-        ESCROWS,
-        &[s.signer, s.target, s.amount, s.until, IS_OPEN, s.now, 0, 0],
-    )
+    let found = numbered::find_wallet(wallets, header[WALLETS] as usize, s.signer);
+    match found {
+        WalletState::Live(signer) => {
+            moves::ensure_wallet(header, wallets, s.target);
+            moves::move_credits(wallets, signer, BALANCE, signer, LOCKED, s.amount);
+            moves::append(
+                header,
+                escrows,
+                edition.escrow,
+                ESCROWS,
+                &[s.signer, s.target, s.amount, s.until, IS_OPEN, s.now, 0, 0],
+            )
+        },
+        // 13 and 43 refuse these
+        WalletState::Missing => 0,
+        WalletState::Closed(_) => 0,
+    }
 }
 
 // Release and refund end the escrow that the target names, in the state that is given: release pays the recipient, refund the sender.
@@ -177,7 +193,7 @@ pub fn dispute(receipts: &mut [u64], s: Submission) -> u64
 
 // Freeze sets the wallet's frozen word, or the system's for target 0, to bit 2.
 pub fn freeze(header: &mut [u64], wallets: &mut [u64], s: Submission) -> u64
-    requires { ⌜ Counted (now header) (now wallets) ⌝ }
+    requires { ⌜ Freezing (now header) (now wallets) s ⌝ }
     ensures { λ x. ⌜ ((K : Ledger) → let L = any K with-header header with-wallets wallets in done x (L .exit) ≡ freeze s (L .entry)) ⌝ }
 {
     let frozen = auto_or_freeze(s.flags);
@@ -185,18 +201,49 @@ pub fn freeze(header: &mut [u64], wallets: &mut [u64], s: Submission) -> u64
         header[SYSTEM_FROZEN] = frozen;
         return 0;
     }
-    let target = numbered::find_wallet(wallets, header[WALLETS] as usize, s.target);
-    numbered::set_wallet(wallets, target, FROZEN, frozen);
-    0
+    let found = numbered::find_wallet(wallets, header[WALLETS] as usize, s.target);
+    match found {
+        WalletState::Live(target) => {
+            numbered::set_wallet(wallets, target, FROZEN, frozen);
+            0
+        },
+        // 16 and 43 refuse these: a closed wallet is not opened again
+        WalletState::Missing => 0,
+        WalletState::Closed(_) => 0,
+    }
 }
 
 // Caps sets both caps.
 pub fn caps(header: &[u64], wallets: &mut [u64], s: Submission) -> u64
-    requires { ⌜ Counted (now header) (now wallets) ⌝ }
+    requires { ⌜ Naming (now header) (now wallets) s ⌝ }
     ensures { λ x. ⌜ ((K : Ledger) → let L = any K with-header header with-wallets wallets in done x (L .exit) ≡ caps s (L .entry)) ⌝ }
 {
-    let target = numbered::find_wallet(wallets, header[WALLETS] as usize, s.target);
-    numbered::set_wallet(wallets, target, TX_CAP, s.amount);
-    numbered::set_wallet(wallets, target, DAILY_CAP, s.link);
-    0
+    let found = numbered::find_wallet(wallets, header[WALLETS] as usize, s.target);
+    match found {
+        WalletState::Live(target) => {
+            numbered::set_wallet(wallets, target, TX_CAP, s.amount);
+            numbered::set_wallet(wallets, target, DAILY_CAP, s.link);
+            0
+        },
+        // 16 and 43 refuse these
+        WalletState::Missing => 0,
+        WalletState::Closed(_) => 0,
+    }
+}
+
+// Close sets the wallet's frozen word to 2, for good.
+pub fn close(header: &[u64], wallets: &mut [u64], s: Submission) -> u64
+    requires { ⌜ Naming (now header) (now wallets) s ⌝ }
+    ensures { λ x. ⌜ ((K : Ledger) → let L = any K with-header header with-wallets wallets in done x (L .exit) ≡ close s (L .entry)) ⌝ }
+{
+    let found = numbered::find_wallet(wallets, header[WALLETS] as usize, s.target);
+    match found {
+        WalletState::Live(target) => {
+            numbered::set_wallet(wallets, target, FROZEN, IS_CLOSED);
+            0
+        },
+        // 16 and 43 refuse these
+        WalletState::Missing => 0,
+        WalletState::Closed(_) => 0,
+    }
 }

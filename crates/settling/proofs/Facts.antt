@@ -2,16 +2,17 @@
 -- and what each refusal that does not hold says of the submission, asked by its number.
 use mathlib.Core.Path.{_≡_, ap, _∙_}
 use mathlib.Core.List.{List, [], _∷_}
-use mathlib.Core.Bool.{true}
-use Prim.Native.Nat.{ℕ, _-_, _≤_, _^_}
+use mathlib.Core.Bool.{true, false}
+use Prim.Native.Nat.{ℕ, _-_, _≤_, _<_, _^_}
 use native.Mathlib.Nat.{le-trans}
 use native.Mathlib.Omega.{arith}
 use lib.ListN.{getD}
-use borrow.Author.Tests.{le-ltb}
+use borrow.Author.Tests.{le-ltb, lt-ltb}
 use Rattle.rules.specs.Limits.{MAX-ENTRIES, ENTRIES}
-use Rattle.rules.specs.Limits.{GRANT, TRANSFER, OPEN, ACCEPT, DISPUTE}
-use Rattle.rules.specs.Ledger.{Ledger, ledgerOf, walletRow, written}
-use Rattle.rules.specs.Refusals.{entryRefusals, oneOf, paying, closing}
+use Rattle.rules.specs.Limits.{GRANT, TRANSFER, OPEN, ACCEPT, DISPUTE, FREEZE, CAPS, CLOSE}
+use Rattle.rules.specs.Ledger.{Ledger, ledgerOf, walletCount, walletRow, hasWallet, written}
+use Rattle.rules.specs.Wallets.{closedAt, isClosed}
+use Rattle.rules.specs.Refusals.{entryRefusals, oneOf, paying, closing, signs, targets}
 use Rattle.rules.specs.Submit.{answerOf}
 use Rattle.rules.specs.declared.Edition.{Edition}
 use Rattle.rules.specs.declared.Submission.{Submission}
@@ -20,12 +21,12 @@ use Rattle.rules.proofs.Tests.{written-low, written-high, header-wide, Few, cou
 use Rattle.rules.proofs.Formed.{Formed, formed-says}
 use Rattle.rules.proofs.Refused.{entry-pass}
 use Rattle.rules.proofs.Passed.{amount-high, sender-row, sender-has, escrow-written, escrow-row, escrow-open, receipt-written, receipt-row}
-use Rattle.rules.proofs.Passed.{grant-within, wallet-place}
+use Rattle.rules.proofs.Passed.{there, target-row, frozen-row, signer-live, target-live, grant-within, wallet-place}
 use Rattle.rules.proofs.Good.{Good, good-of, balance-most, locked-most}
 use Rattle.rows.specs.Numbered.{Names}
 use Rattle.moves.specs.Needs.{Small, Counted, Ends, Accepts}
 use Rattle.moves.proofs.Bounds.{counted-of, ends-of, accepts-of}
-use Rattle.operations.specs.Needs.{Receiving, Granting, Paying, Opening, Claiming}
+use Rattle.operations.specs.Needs.{Receiving, Granting, Lives, Paying, Opening, Claiming, Naming, Freezing}
 use Rattle.sweeping.specs.Needs.{Sweeping}
 use Rattle.settling.specs.Needs.{Settles}
 
@@ -79,15 +80,19 @@ module _ (ed : Edition) (h w e r j : List ℕ) (s : Submission) (p : Settles (le
     granted = grant-within L read answered (ap (oneOf (GRANT ∷ [])) o);
   }
 
-  pays : oneOf (GRANT ∷ TRANSFER ∷ OPEN ∷ []) (s .op) ≡ true → oneOf paying (s .op) ≡ true → Paying h w s
-  pays t u = record { receiving = receiving t; signer = sender-row L read answered u; enough = sender-has L read answered u }
+  -- a wallet that is there and not closed
+  live : (id : ℕ) → walletRow L id < walletCount L → isClosed L id ≡ false → Lives h w id
+  live id l c = record { there = l; unclosed = there (hasWallet L id) (closedAt w (walletRow L id)) (lt-ltb _ _ l) c }
+
+  pays : oneOf (GRANT ∷ TRANSFER ∷ OPEN ∷ []) (s .op) ≡ true → oneOf paying (s .op) ≡ true → oneOf signs (s .op) ≡ true → Paying h w s
+  pays t u v = record { receiving = receiving t; signer = live (s .signer) (sender-row L read answered u) (signer-live L read answered v); enough = sender-has L read answered u }
 
   pub transferring : s .op ≡ TRANSFER → Paying h w s
-  transferring o = pays (ap (oneOf (GRANT ∷ TRANSFER ∷ OPEN ∷ [])) o) (ap (oneOf paying) o)
+  transferring o = pays (ap (oneOf (GRANT ∷ TRANSFER ∷ OPEN ∷ [])) o) (ap (oneOf paying) o) (ap (oneOf signs) o)
 
   pub opening : s .op ≡ OPEN → Opening ed h w s
   opening o = record {
-    paying = pays (ap (oneOf (GRANT ∷ TRANSFER ∷ OPEN ∷ [])) o) (ap (oneOf paying) o);
+    paying = pays (ap (oneOf (GRANT ∷ TRANSFER ∷ OPEN ∷ [])) o) (ap (oneOf paying) o) (ap (oneOf signs) o);
     locked = locked-most L good (walletRow L (s .signer)) (sender-row L read answered (ap (oneOf paying) o));
     len = p .sized .small;
     escrows = small .escrows;
@@ -120,6 +125,21 @@ module _ (ed : Edition) (h w e r j : List ℕ) (s : Submission) (p : Settles (le
   pub swept : Sweeping ed h w e r (s .now)
   swept = record { len = p .sized .small; small = small; good = good; now = formed .now-right }
 
-  -- 10 and 11
-  pub counted : Counted h w
+  -- 10, 11 and 12
+  counted : Counted h w
   counted = counted-of ed (p .sized .small) h w e r small good
+
+  pub freezing : s .op ≡ FREEZE → Freezing h w s
+  freezing o = record {
+    counted = counted;
+    target = λ ne. live (s .target) (frozen-row L read answered (ap (oneOf (FREEZE ∷ [])) o) ne) (target-live L read answered (ap (oneOf targets) o));
+  }
+
+  naming : oneOf (CAPS ∷ CLOSE ∷ []) (s .op) ≡ true → oneOf targets (s .op) ≡ true → Naming h w s
+  naming t u = record { counted = counted; target = live (s .target) (target-row L read answered t) (target-live L read answered u) }
+
+  pub capping : s .op ≡ CAPS → Naming h w s
+  capping o = naming (ap (oneOf (CAPS ∷ CLOSE ∷ [])) o) (ap (oneOf targets) o)
+
+  pub shutting : s .op ≡ CLOSE → Naming h w s
+  shutting o = naming (ap (oneOf (CAPS ∷ CLOSE ∷ [])) o) (ap (oneOf targets) o)

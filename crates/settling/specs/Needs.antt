@@ -1,4 +1,4 @@
--- A submission that nothing refuses: the lengths are right, the ledger is sound, the record is well-formed, and no condition of 4 to 41 holds.
+-- A submission that nothing refuses: the lengths are right, the ledger is sound, the record is well-formed, and no condition of 4 to 43 holds.
 use mathlib.Core.Path.{_≡_}
 use mathlib.Core.List.{List, _++_}
 use mathlib.Core.Bool.{true}

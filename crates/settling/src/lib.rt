@@ -5,6 +5,7 @@ use rules::limits::ACCEPT;
 use rules::limits::CAPS;
 use rules::limits::CLAIM;
 use rules::limits::CLOCK;
+use rules::limits::CLOSE;
 use rules::limits::DISPUTE;
 use rules::limits::ENTRIES;
 use rules::limits::FREEZE;
@@ -51,6 +52,7 @@ fn operate(
         SWEEP => sweeping::sweep(edition, header, wallets, escrows, receipts, s.now, s.amount),
         FREEZE => operations::freeze(header, wallets, s),
         CAPS => operations::caps(header, wallets, s),
+        CLOSE => operations::close(header, wallets, s),
         // no well-formed record has another operation
         _ => 0,
     }

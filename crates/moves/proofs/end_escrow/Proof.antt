@@ -16,8 +16,8 @@ escrow-requires-3 c κs = search needs
 shared-slice-read-written : tie.Need-shared-slice-read-written
 shared-slice-read-written c = search needs
 
-find-wallet-requires : tie.Need-find-wallet-requires
-find-wallet-requires c κs = search needs
+party-requires : tie.Need-party-requires
+party-requires c κs = search needs
 
 payee-requires : tie.Need-payee-requires
 payee-requires c κs = search needs
@@ -31,7 +31,7 @@ move-credits-requires c κs =
     let from = to .before .before in
     let amount = from .before .before .before in
     let read = amount .before .before .before .before in
-    can-move _ _ _ _ _ _ _ _ _ _ (read .before .before .before .before .before .args .state) (read .escrow .ensures) (amount .before .before .escrow2 .ensures) (amount .escrow3 .ensures) (from .find-wallet .ensures) (to .payee .ensures) (read .before .before .before .before .before .pre .1)
+    can-move _ _ _ _ _ _ _ _ _ _ (read .before .before .before .before .before .args .state) (read .escrow .ensures) (amount .before .before .escrow2 .ensures) (amount .escrow3 .ensures) (from .party .ensures) (to .payee .ensures) (read .before .before .before .before .before .pre .1)
 
 same-length : tie.Need-same-length
 same-length c = search needs
@@ -47,7 +47,7 @@ returns c =
     let from = to .before .before in
     let amount = from .before .before .before in
     let read = amount .before .before .before .before in
-    ended _ _ _ _ _ _ _ _ _ _ _ (read .escrow .ensures) (amount .before .before .escrow2 .ensures) (amount .escrow3 .ensures) (from .find-wallet .ensures) (to .payee .ensures) _ _ _ _ (closed .close-escrow .ensures) (moved .move-credits .ensures)
+    ended _ _ _ _ _ _ _ _ _ _ _ (read .escrow .ensures) (amount .before .before .escrow2 .ensures) (amount .escrow3 .ensures) (from .party .ensures) (to .payee .ensures) _ _ _ _ (closed .close-escrow .ensures) (moved .move-credits .ensures)
 
 pub end-escrow-spec : {M : Type 1} → statement M
 end-escrow-spec =
@@ -57,7 +57,7 @@ end-escrow-spec =
     escrow-requires-2
     escrow-requires-3
     shared-slice-read-written
-    find-wallet-requires
+    party-requires
     payee-requires
     close-escrow-requires
     move-credits-requires

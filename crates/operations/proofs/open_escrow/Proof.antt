@@ -1,8 +1,15 @@
--- `operations::open_escrow` meets its contract.
+-- `operations::open_escrow` meets its contract: the signer is live.
 use Rattle.operations.proofs.Pays.{can-hold, can-open, opened}
+use Rattle.operations.proofs.Live.{live-row, not-missing, not-closed}
 use borrow.Author.Needs.{needs}
 use Rattle.operations.proofs.open_escrow.Statement.{statement}
 use Rattle.operations.proofs.open_escrow.Tie as tie
+use Rattle.operations.proofs.open_escrow.Reads as reads
+use Rattle.operations.proofs.open_escrow.Lts as lts
+use Rattle.moves.proofs.append.Reads as append-reads
+use Rattle.moves.proofs.ensure_wallet.Reads as ensure-wallet-reads
+use Rattle.moves.proofs.move_credits.Reads as move-credits-reads
+use Rattle.rows.proofs.numbered.find_wallet.Reads as find-wallet-reads
 
 slice-read-find-wallet : tie.Need-slice-read-find-wallet
 slice-read-find-wallet c = search needs
@@ -10,24 +17,34 @@ slice-read-find-wallet c = search needs
 find-wallet-requires : tie.Need-find-wallet-requires
 find-wallet-requires c κs = search needs
 
+enum-known-found : tie.Need-enum-known-found
+enum-known-found c = search needs
+
 ensure-wallet-requires : tie.Need-ensure-wallet-requires
 ensure-wallet-requires c κs = search needs
 
 move-credits-requires : tie.Need-move-credits-requires
 move-credits-requires c κs =
     let made = c .before .before .before .before .before in
-    let found = made .before .before .before in
-    can-hold _ _ _ _ _ _ _ (found .before .before .before .before .before .before .pre) (found .find-wallet .ensures) (made .ensure-wallet .ensures .1)
+    let found = made .before .before .before .before in
+    let signer = live-row _ _ _ _ (found .before .before .find-wallet .ensures) _ (found .found .given .1) in
+    can-hold _ _ _ _ _ _ _ (found .before .before .before .before .before .before .before .before .pre) signer (made .ensure-wallet .ensures .1)
 
 slice-aggregate-append : tie.Need-slice-aggregate-append
 slice-aggregate-append c = search needs
 
 append-requires : tie.Need-append-requires
 append-requires c κs =
-    let moved = c .before .before .before .before .before in
-    let made = moved .before .before .before .before .before .before in
-    let found = made .before .before .before in
-    can-open _ _ _ _ _ _ _ (found .before .before .before .before .before .before .pre) (found .find-wallet .ensures) (made .ensure-wallet .ensures .1)
+    let made = c .before .before .before .before .before .before .before .before .before .before .before in
+    let found = made .before .before .before .before in
+    let signer = live-row _ _ _ _ (found .before .before .find-wallet .ensures) _ (found .found .given .1) in
+    can-open _ _ _ _ _ _ _ (found .before .before .before .before .before .before .before .before .pre) signer (made .ensure-wallet .ensures .1)
+
+enum-told : tie.Need-enum-told
+enum-told c = search needs
+
+enum-told-2 : tie.Need-enum-told-2
+enum-told-2 c = search needs
 
 same-length : tie.Need-same-length
 same-length c = search needs
@@ -43,8 +60,21 @@ returns c =
     let added = c .before .before .before .before in
     let moved = added .before .before .before .before .before .before in
     let made = moved .before .before .before .before .before .before in
-    let found = made .before .before .before in
-    opened _ _ _ _ _ _ _ (found .before .before .before .before .before .before .pre) (found .find-wallet .ensures) (made .ensure-wallet .ensures .1) _ _ _ _ _ (moved .move-credits .ensures) (added .append .ensures .0) (added .append .ensures .1) (added .append .ensures .2)
+    let found = made .before .before .before .before in
+    let signer = live-row _ _ _ _ (found .before .before .find-wallet .ensures) _ (found .found .given .1) in
+    opened _ _ _ _ _ _ _ (found .before .before .before .before .before .before .before .before .pre) signer (made .ensure-wallet .ensures .1) _ _ _ _ _ (moved .move-credits .ensures) (added .append .ensures .0) (added .append .ensures .1) (added .append .ensures .2)
+
+same-length-4 : tie.Need-same-length-4
+same-length-4 c = search needs
+
+returns-2 : tie.Need-returns-2
+returns-2 c = absurd (not-missing _ _ _ _ (c .before .before .find-wallet .ensures) (c .before .before .before .before .before .before .before .before .pre .paying .signer .there) (c .enum-told .given .1))
+
+same-length-5 : tie.Need-same-length-5
+same-length-5 c = search needs
+
+returns-3 : tie.Need-returns-3
+returns-3 c = absurd (not-closed _ _ _ _ (c .before .before .find-wallet .ensures) (c .before .before .before .before .before .before .before .before .pre .paying .signer .unclosed) _ (c .enum-told2 .given .1))
 
 pub open-escrow-spec : {M : Type 1} → statement M
 open-escrow-spec =
@@ -52,11 +82,18 @@ open-escrow-spec =
     (tie.spec
     slice-read-find-wallet
     find-wallet-requires
+    enum-known-found
     ensure-wallet-requires
     move-credits-requires
     slice-aggregate-append
     append-requires
+    enum-told
+    enum-told-2
     same-length
     same-length-2
     same-length-3
-    returns)
+    returns
+    same-length-4
+    returns-2
+    same-length-5
+    returns-3)

@@ -5,8 +5,8 @@ use Rattle.rules.specs.Ledger.{ledgerOf, setReceipts}
 use Rattle.rules.specs.Settle.{release, refund, sweep}
 use Rattle.rules.proofs.Calls.{by-op}
 use Rattle.rules.specs.Refusals.{oneOf, closing}
-use Rattle.rules.specs.Limits.{GRANT, TRANSFER, OPEN, RELEASE, REFUND, CLAIM, ACCEPT, DISPUTE, SWEEP, FREEZE, CAPS}
-use Rattle.settling.proofs.Facts.{formed, granting, transferring, opening, ending, claiming, accepting, disputing, swept, counted}
+use Rattle.rules.specs.Limits.{GRANT, TRANSFER, OPEN, RELEASE, REFUND, CLAIM, ACCEPT, DISPUTE, SWEEP, FREEZE, CAPS, CLOSE}
+use Rattle.settling.proofs.Facts.{formed, granting, transferring, opening, ending, claiming, accepting, disputing, swept, freezing, capping, shutting}
 use Rattle.settling.proofs.Settled.{operated}
 use borrow.Author.Needs.{needs}
 use Rattle.settling.proofs.operate.Statement.{statement}
@@ -54,10 +54,19 @@ sweep-requires : tie.Need-sweep-requires
 sweep-requires c κs = swept _ _ _ _ _ _ _ (c .before .before .before .before .before .before .before .before .before .pre .settles)
 
 freeze-requires : tie.Need-freeze-requires
-freeze-requires c κs = counted _ _ _ _ _ _ _ (c .before .before .before .before .before .before .before .pre .settles)
+freeze-requires c κs =
+    let arm = c .before .before in
+    freezing _ _ _ _ _ _ _ (arm .before .before .before .before .before .pre .settles) (arm .match .keys10)
 
 caps-requires : tie.Need-caps-requires
-caps-requires c κs = counted _ _ _ _ _ _ _ (c .before .before .before .before .before .before .before .pre .settles)
+caps-requires c κs =
+    let arm = c .before .before in
+    capping _ _ _ _ _ _ _ (arm .before .before .before .before .before .pre .settles) (arm .match .keys11)
+
+close-requires : tie.Need-close-requires
+close-requires c κs =
+    let arm = c .before .before in
+    shutting _ _ _ _ _ _ _ (arm .before .before .before .before .before .pre .settles) (arm .match .keys12)
 
 same-length : tie.Need-same-length
 same-length c = search needs
@@ -179,12 +188,21 @@ same-length-28 c = search needs
 returns-11 : tie.Need-returns-11
 returns-11 c = λ K. operated CAPS _ _ _ (c .before .before .before .before .before .match .keys11) (c .before .before .caps .ensures (ledgerOf _ [] [] _ _ _))
 
+same-length-29 : tie.Need-same-length-29
+same-length-29 c = search needs
+
+same-length-30 : tie.Need-same-length-30
+same-length-30 c = search needs
+
 returns-12 : tie.Need-returns-12
-returns-12 c =
+returns-12 c = λ K. operated CLOSE _ _ _ (c .before .before .before .before .before .match .keys12) (c .before .before .close .ensures (ledgerOf _ [] [] _ _ _))
+
+returns-13 : tie.Need-returns-13
+returns-13 c =
     let f = formed _ _ _ _ _ _ _ (c .before .before .before .before .before .pre .settles) in
-    let few = c .match .rest .0 .0 .0 .0 .0 in
+    let few = c .match .rest .0 .0 .0 .0 .0 .0 in
     let some = c .match .rest in
-    absurd (by-op (λ _. ⊥) _ (f .low) (f .high) (few .0 .0 .0 .0 .0 .1) (few .0 .0 .0 .0 .1) (few .0 .0 .0 .1) (few .0 .0 .1) (few .0 .1) (few .1) (some .0 .0 .0 .0 .1) (some .0 .0 .0 .1) (some .0 .0 .1) (some .0 .1) (some .1))
+    absurd (by-op (λ _. ⊥) _ (f .low) (f .high) (few .0 .0 .0 .0 .0 .1) (few .0 .0 .0 .0 .1) (few .0 .0 .0 .1) (few .0 .0 .1) (few .0 .1) (few .1) (some .0 .0 .0 .0 .0 .1) (some .0 .0 .0 .0 .1) (some .0 .0 .0 .1) (some .0 .0 .1) (some .0 .1) (some .1))
 
 pub operate-spec : {M : Type 1} → statement M
 operate-spec =
@@ -201,6 +219,7 @@ operate-spec =
     sweep-requires
     freeze-requires
     caps-requires
+    close-requires
     same-length
     same-length-2
     returns
@@ -240,4 +259,7 @@ operate-spec =
     same-length-27
     same-length-28
     returns-11
-    returns-12)
+    same-length-29
+    same-length-30
+    returns-12
+    returns-13)
