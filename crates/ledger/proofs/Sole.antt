@@ -6,6 +6,7 @@ use Prim.Native.Nat.{ℕ}
 use denote.Ref.{now}
 use Rattle.rules.specs.Ledger.{Outcome, outcome}
 use Rattle.rules.specs.Results.{Sole, Pair, pair}
+use Rattle.rules.specs.declared.WalletState.{WalletState}
 use Rattle.rules.proofs.Sole.{one}
 use Rattle.ledger.proofs.Surface.{five}
 use Rattle.ledger.proofs.fresh.Kinds as fresh-kinds
@@ -29,9 +30,9 @@ sole-fresh κs a x y v w p q = one p q
 pub sole-submit : Sole submit-kinds.ps submit-kinds.r submit-reads.Learnt Outcome (λ κs x e. outcome (x .number) (x .word) (five e))
 sole-submit κs a x y v w p q = one p q
 
--- a number or a place, and the two slices lent
-pub sole-wallet-row : Sole wallet-kinds.ps wallet-kinds.r wallet-reads.Learnt (ℕ × Pair) (λ κs x e. (x .0, pair (now (e .0)) (now (e .1 .0))))
-sole-wallet-row κs a x y v w p q = ap (λ (n : ℕ). (n, pair (now (a .0)) (now (a .1 .0)))) (one p q)
+-- what was found of a wallet, or a place, and the two slices lent
+pub sole-wallet-row : Sole wallet-kinds.ps wallet-kinds.r wallet-reads.Learnt (WalletState × Pair) (λ κs x e. (x, pair (now (e .0)) (now (e .1 .0))))
+sole-wallet-row κs a x y v w p q = ap (λ (s : WalletState). (s, pair (now (a .0)) (now (a .1 .0)))) (one p q)
 
 pub sole-escrow-place : Sole escrow-place-kinds.ps escrow-place-kinds.r escrow-place-reads.Learnt (ℕ × Pair) (λ κs x e. (x, pair (now (e .0)) (now (e .1 .0))))
 sole-escrow-place κs a x y v w p q = ap (λ (n : ℕ). (n, pair (now (a .0)) (now (a .1 .0)))) (one p q)

@@ -1,13 +1,14 @@
 -- THE DEMANDS OF THE CODE. What a public call of `ledger`, `record` or `rules` did, by that call's own contract; what it showed; and so the
 -- three demands of every call and of every run.
-use mathlib.Core.Path.{refl}
+use mathlib.Core.Path.{refl, ap}
 use lib.Dec.{lit<, lit≤}
 use denote.Ref.{now}
 use Rattle.rules.specs.Ledger.{Ledger, first-edition}
 use Rattle.rules.specs.Moments.{Slice, tables}
 use Rattle.rules.specs.Record.{readOf}
-use Rattle.rules.specs.Results.{Ran, exits, Pair, pair, Result, by-fresh, by-submit, by-lookup, wallet-number, escrow-place, escrow-row, receipt-place, receipt-row, by-read, by-write, by-status, Meets}
+use Rattle.rules.specs.Results.{Ran, exits, Pair, pair, Result, by-fresh, by-submit, by-lookup, wallet-standing, escrow-place, escrow-row, receipt-place, receipt-row, by-read, by-write, by-status, Meets}
 use Rattle.rules.specs.Runs.{Surface, Calls-are-listed, Calls-decide, Runs-add-up, Runs-refuse-retries, Retries-change-nothing}
+use Rattle.rules.specs.Wallets.{standingOf}
 use Rattle.rules.proofs.Runs.{calls-are-listed, calls-decide, runs-add-up, runs-refuse-retries, retries-change-nothing}
 use Rattle.rules.proofs.status.Kinds as status-kinds
 use Rattle.rules.proofs.status.Reads as status-reads
@@ -58,7 +59,7 @@ pub data Did : Type 0 where
   did-receipt-row : Ran receipt-row-kinds.ps receipt-row-kinds.r receipt-row-reads.Learnt → Did
 
 -- what it was lent, left, asked and answered: its parameters at entry and at exit, in the order of the source. A round trip is shown by its
--- second half.
+-- second half, and what was found of a wallet in numbers.
 abbrev pub shows : Did → Result
 shows (did-fresh x) = by-fresh (five (x .args)) (five (exits x)) (x .answer)
 shows (did-submit x) = by-submit (five (x .args)) (five (exits x)) (now (x .args .1 .1 .1 .1 .1 .0)) (x .answer .number) (x .answer .word)
@@ -67,7 +68,7 @@ shows (did-write x) = by-write (x .args .0) (now (x .args .1 .0)) (now (exits x 
 shows (did-write-read x) = by-read (now (exits x .1 .0)) (x .answer)
 shows (did-read-write x) = by-write (readOf (now (x .args .0)) .submission) (now (x .args .1 .0)) (now (exits x .1 .0)) (x .answer)
 shows (did-status x) = by-status (x .args .0) (x .answer)
-shows (did-wallet x) = by-lookup (two (x .args)) (two (exits x)) (wallet-number (x .args .1 .1 .0) (x .answer .0))
+shows (did-wallet x) = by-lookup (two (x .args)) (two (exits x)) (wallet-standing (x .args .1 .1 .0) (standingOf (x .answer)))
 shows (did-escrow-place x) = by-lookup (two (x .args)) (two (exits x)) (escrow-place (x .args .1 .1 .0 .0) (x .answer))
 shows (did-escrow-row x) = by-lookup (two (x .args)) (two (exits x)) (escrow-row (x .args .1 .1 .0 .0) (now (x .answer)))
 shows (did-receipt-place x) = by-lookup (two (x .args)) (two (exits x)) (receipt-place (x .args .1 .1 .0 .0) (x .answer))
@@ -82,7 +83,7 @@ meets (did-write x) = x .meets
 meets (did-write-read x) = x .meets .1
 meets (did-read-write x) = x .meets .0
 meets (did-status x) = x .meets
-meets (did-wallet x) = (refl, x .meets)
+meets (did-wallet x) = (refl, ap standingOf (x .meets))
 meets (did-escrow-place x) = (refl, x .meets)
 meets (did-escrow-row x) = (refl, x .meets .0)
 meets (did-receipt-place x) = (refl, x .meets)

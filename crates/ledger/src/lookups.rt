@@ -1,12 +1,12 @@
 // Row lookups: that very row of the caller's table, or an empty part; and the search for a wallet.
 ghost use mathlib.Core.Path.{_≡_};
 ghost use Rattle.rules.specs.Ledger.{first-edition};
-ghost use Rattle.rules.specs.Lookup.{escrowPlace, escrowPart, receiptPlace, receiptPart, walletNumber};
+ghost use Rattle.rules.specs.Lookup.{escrowPlace, escrowPart, receiptPlace, receiptPart, walletState};
 ghost use Rattle.rows.specs.Part.{placed};
 use rules::EscrowNumber;
 use rules::FIRST;
 use rules::ReceiptNumber;
-use rules::WalletNumber;
+use rules::WalletState;
 
 // Where an escrow's row starts in the table, in words; the table's length where it is not written.
 pub fn escrow_place(header: &[u64], escrows: &[u64], n: EscrowNumber) -> usize
@@ -38,9 +38,9 @@ pub fn receipt_row<'a>(header: &[u64], receipts: &'a [u64], n: ReceiptNumber) ->
     looking::receipt_row(FIRST, header, receipts, n)
 }
 
-// The number of the first written wallet with the id; 0 where there is none.
-pub fn wallet_row(header: &[u64], wallets: &[u64], id: u64) -> WalletNumber
-    ensures { λ r. ⌜ r .0 ≡ walletNumber first-edition (now (header .entry)) (now (wallets .entry)) id ⌝ }
+// The wallet of an id: missing, or live or closed and its number.
+pub fn wallet_row(header: &[u64], wallets: &[u64], id: u64) -> WalletState
+    ensures { λ r. ⌜ r ≡ walletState first-edition (now (header .entry)) (now (wallets .entry)) id ⌝ }
 {
     looking::wallet_row(FIRST, header, wallets, id)
 }

@@ -10,6 +10,7 @@ use Rattle.rules.specs.Replay.{Gone, gone}
 use Rattle.rules.specs.Report.{Reported, reportOf, telling}
 use Rattle.rules.specs.Results.{Sole, Pair, pair}
 use Rattle.rules.specs.declared.Read.{Read}
+use Rattle.rules.specs.declared.Standing.{Standing}
 use Rattle.rules.specs.declared.Verdict.{Verdict}
 use Rattle.rules.proofs.Sole.{one}
 use Rattle.ledger.proofs.Surface.{five}
@@ -49,9 +50,9 @@ sole-write κs a x y v w p q = one p q
 pub sole-status : Sole status-kinds.ps status-kinds.r status-reads.Learnt ℕ (λ κs x e. x)
 sole-status κs a x y v w p q = one p q
 
--- a number or a place, and the two slices lent
-pub sole-wallet-row : Sole wallet-kinds.ps wallet-kinds.r wallet-reads.Learnt (ℕ × Pair) (λ κs x e. (x .0, pair (now (e .0)) (now (e .1 .0))))
-sole-wallet-row κs a x y v w p q = ap (λ (n : ℕ). (n, pair (now (a .0)) (now (a .1 .0)))) (one p q)
+-- what was found of a wallet, in numbers, or a place, and the two slices lent
+pub sole-wallet-row : Sole wallet-kinds.ps wallet-kinds.r wallet-reads.Learnt (Standing × Pair) (λ κs x e. (x, pair (now (e .0)) (now (e .1 .0))))
+sole-wallet-row κs a x y v w p q = ap (λ (s : Standing). (s, pair (now (a .0)) (now (a .1 .0)))) (one p q)
 
 pub sole-escrow-place : Sole escrow-place-kinds.ps escrow-place-kinds.r escrow-place-reads.Learnt (ℕ × Pair) (λ κs x e. (x, pair (now (e .0)) (now (e .1 .0))))
 sole-escrow-place κs a x y v w p q = ap (λ (n : ℕ). (n, pair (now (a .0)) (now (a .1 .0)))) (one p q)

@@ -5,7 +5,7 @@ use lib.Dec.{lit<, lit≤}
 use denote.Ref.{now}
 use Rattle.rules.specs.Ledger.{first-edition}
 use Rattle.rules.specs.Report.{reportOf}
-use Rattle.rules.specs.Results.{Ran, exits, Result, by-fresh, by-submit, by-replay, by-report, by-lookup, wallet-number, escrow-place, receipt-place, by-read, by-write, by-status, Meets}
+use Rattle.rules.specs.Results.{Ran, exits, Result, by-fresh, by-submit, by-replay, by-report, by-lookup, wallet-standing, escrow-place, receipt-place, by-read, by-write, by-status, Meets}
 use Rattle.rules.specs.Runs.{Surface, Calls-are-listed, Calls-decide, Runs-add-up, Runs-refuse-retries, Retries-change-nothing, Runs-recordings-agree}
 use Rattle.rules.proofs.Runs.{calls-are-listed, calls-decide, runs-add-up, runs-refuse-retries, retries-change-nothing}
 use Rattle.rules.proofs.Recorded.{runs-recordings-agree}
@@ -59,7 +59,7 @@ shows (did-report x) =
 shows (did-read x) = by-read (now (x .args .0)) (x .answer)
 shows (did-write x) = by-write (x .args .0) (now (x .args .1 .0)) (now (exits x .1 .0)) (x .answer)
 shows (did-status x) = by-status (x .args .0) (x .answer)
-shows (did-wallet x) = by-lookup (two (x .args)) (two (exits x)) (wallet-number (x .args .1 .1 .0) (x .answer .0))
+shows (did-wallet x) = by-lookup (two (x .args)) (two (exits x)) (wallet-standing (x .args .1 .1 .0) (x .answer))
 shows (did-escrow-place x) = by-lookup (two (x .args)) (two (exits x)) (escrow-place (x .args .1 .1 .0 .0) (x .answer))
 shows (did-receipt-place x) = by-lookup (two (x .args)) (two (exits x)) (receipt-place (x .args .1 .1 .0 .0) (x .answer))
 

@@ -2,21 +2,22 @@
 // A slice is a pointer, then a count of elements.
 ghost use mathlib.Core.Path.{_≡_};
 ghost use Rattle.rules.specs.Ledger.{first-edition, outcome, fresh};
-ghost use Rattle.rules.specs.Lookup.{escrowPlace, receiptPlace, walletNumber};
+ghost use Rattle.rules.specs.Lookup.{escrowPlace, receiptPlace, walletState};
 ghost use Rattle.rules.specs.Moments.{lent};
 ghost use Rattle.rules.specs.Record.{Written, readOf, writeOf};
 ghost use Rattle.rules.specs.Replay.{gone, told, replay};
 ghost use Rattle.rules.specs.Report.{reportOf, telling, report};
 ghost use Rattle.rules.specs.Status.{statusOf};
 ghost use Rattle.rules.specs.Submit.{submit};
+ghost use Rattle.rules.specs.Wallets.{standingOf};
 use rules::Answer;
 use rules::EscrowNumber;
 use rules::Read;
 use rules::ReceiptNumber;
+use rules::Standing;
 use rules::Submission;
 use rules::Told;
 use rules::Verdict;
-use rules::WalletNumber;
 use rules::limits::ANSWERS;
 use rules::limits::FIGURES;
 use rules::limits::GRID_ROWS;
@@ -78,12 +79,13 @@ pub extern "C" fn milebeacon_status(number: u64) -> u64
     rules::status(number)
 }
 
-// The number of a wallet's row, or 0.
+// The wallet of an id, in numbers: whether it is missing, live or closed, and the number of its row, or 0.
 #[no_mangle]
-pub extern "C" fn milebeacon_wallet_row(header: &[u64], wallets: &[u64], id: u64) -> WalletNumber
-    ensures { λ r. ⌜ r .0 ≡ walletNumber first-edition (now (header .entry)) (now (wallets .entry)) id ⌝ }
+pub extern "C" fn milebeacon_wallet_row(header: &[u64], wallets: &[u64], id: u64) -> Standing
+    ensures { λ r. ⌜ r ≡ standingOf (walletState first-edition (now (header .entry)) (now (wallets .entry)) id) ⌝ }
 {
-    ledger::lookups::wallet_row(header, wallets, id)
+    let state = ledger::lookups::wallet_row(header, wallets, id);
+    looking::standing(state)
 }
 
 // Where an escrow's row starts in its table, in words, or the table's length: a part of a slice cannot be returned across this boundary.
