@@ -80,6 +80,8 @@ refusals! {
     14 SenderFrozen "sender_frozen" "the signer's wallet is frozen";
     15 RecipientInvalid "recipient_invalid" "the recipient is 0 or the signer";
     16 WalletNotFound "wallet_not_found" "the target has no wallet";
+    43 WalletClosed "wallet_closed" "the signer's or the target's wallet is closed";
+    42 WalletNotEmpty "wallet_not_empty" "the target's wallet has balance, locked credits or an open escrow to it";
     17 InsufficientBalance "insufficient_balance" "the signer's balance is less than the amount";
     18 PerTxCapExceeded "per_tx_cap_exceeded" "the amount is over the signer's cap per transaction";
     19 DailyCapExceeded "daily_cap_exceeded" "the amount is over what is left of the signer's daily cap";
@@ -243,7 +245,7 @@ impl fmt::Display for Answer {
 /// The status of an answer's number, as of an HTTP reply; 500 for a number that no answer has.
 ///
 /// ```
-/// assert_eq!([0, 11, 41, 42].map(milebeacon::status), [200, 409, 409, 500]);
+/// assert_eq!([0, 11, 43, 44].map(milebeacon::status), [200, 409, 403, 500]);
 /// ```
 pub fn status(number: u64) -> u64 {
     ffi::status(number)

@@ -81,7 +81,7 @@ pub type Named = [u64; 3];
 const _: () = assert!(std::mem::size_of::<Submission>() == 112);
 const _: () = assert!(std::mem::size_of::<Read>() == 120);
 const _: () = assert!(std::mem::size_of::<Verdict>() == 56);
-const _: () = assert!(GRID_ROWS == 12 && ANSWERS == 42);
+const _: () = assert!(GRID_ROWS == 13 && ANSWERS == 44);
 
 /// Declares entry points that are lent the five tables, which come before what else is named.
 macro_rules! lent_tables {

@@ -1,4 +1,4 @@
-//! The eleven operations.
+//! The twelve operations.
 
 use std::fmt;
 
@@ -48,6 +48,7 @@ operations! {
     9 Sweep "sweep" "Closes receipts and escrows whose deadlines have passed.";
     10 Freeze "freeze" "An admin freezes or thaws a wallet or the whole system.";
     11 Caps "caps" "An admin sets a wallet's caps.";
+    12 Close "close" "An admin closes an empty wallet for good.";
 }
 
 /// The rows of a [report](crate::Report)'s grid: row 0, and one for each operation's number. A later
@@ -64,7 +65,7 @@ const _: () = {
 };
 
 impl Operation {
-    /// Its number in a record, 1 to 11.
+    /// Its number in a record, 1 to 12.
     pub fn number(self) -> u8 {
         self as u8
     }

@@ -56,7 +56,7 @@ pub struct Submission {
 /// What [`Submission::freeze`] freezes or thaws.
 #[derive(Clone, Copy, Debug, PartialEq, Eq, Hash)]
 pub enum Freezable {
-    /// Everything but freezing and setting caps.
+    /// Everything but freezing, setting caps and closing wallets.
     System,
     /// The payments of one wallet.
     Wallet(u64),
@@ -172,6 +172,40 @@ impl Submission {
             amount: per_transaction,
             link: daily,
             ..by_admin(Operation::Caps, envelope)
+        }
+    }
+
+    /// Closes the wallet `target`, of a crew that has left. Admins only, also while the system is
+    /// frozen.
+    ///
+    /// The wallet has to be empty: no balance, no locked credits, and no open escrow to it, not even
+    /// one past its deadline that no sweep has ended yet.
+    ///
+    /// It keeps its row, and is closed for good. From then on a record that names it is refused: as
+    /// the target of a grant, transfer, open, claim, freeze, caps or close, and as the signer of a
+    /// transfer, open or claim. Receipts of before can still be accepted and disputed.
+    ///
+    /// ```
+    /// # use milebeacon::{Answer, Envelope, Ledger, Refusal, Sizes, Submission};
+    /// # let mut ledger = Ledger::new(Sizes::PROGRAM)?;
+    /// let now = 1_700_000_000_000;
+    /// let admin = |nonce| Envelope::new(now, 1, nonce).by_admin();
+    /// ledger.settle(&Submission::grant(admin(1), 7, 500)).settled()?;
+    /// let close = Submission::close(admin(2), 7);
+    /// assert_eq!(ledger.settle(&close), Answer::Refused(Refusal::WalletNotEmpty));
+    ///
+    /// let all = Submission::transfer(Envelope::new(now, 7, 1), 8, 500);
+    /// ledger.settle(&all).settled()?;
+    /// assert_eq!(ledger.settle(&close), Answer::Settled(0)); // the refusal used up no nonce
+    ///
+    /// let back = Submission::transfer(Envelope::new(now, 8, 1), 7, 500);
+    /// assert_eq!(ledger.settle(&back), Answer::Refused(Refusal::WalletClosed));
+    /// # Ok::<(), Refusal>(())
+    /// ```
+    pub fn close(envelope: Envelope, target: u64) -> Submission {
+        Submission {
+            target,
+            ..by_admin(Operation::Close, envelope)
         }
     }
 

@@ -5,8 +5,8 @@ use std::error::Error;
 
 use milebeacon::{status, Answer, Operation, Refusal};
 
-/// The names of the rules, 1 to 41.
-const NAMES: [&str; 41] = [
+/// The names of the rules, 1 to 43.
+const NAMES: [&str; 43] = [
     "bad_table",
     "ledger_damaged",
     "malformed_record",
@@ -48,13 +48,15 @@ const NAMES: [&str; 41] = [
     "receipt_table_full",
     "journal_table_full",
     "acceptance_closed",
+    "wallet_not_empty",
+    "wallet_closed",
 ];
 
-/// The statuses of the rules, 0 to 41.
-const STATUSES: [u64; 42] = [
+/// The statuses of the rules, 0 to 43.
+const STATUSES: [u64; 44] = [
     200, 500, 500, 400, 409, 503, 400, 403, 400, 400, 400, 409, 400, 404, 403, 400, 404, 402, 400,
     429, 400, 400, 404, 404, 400, 400, 400, 404, 403, 409, 400, 400, 404, 403, 409, 400, 409, 507,
-    507, 507, 507, 409,
+    507, 507, 507, 409, 409, 403,
 ];
 
 #[test]
@@ -68,7 +70,7 @@ fn refusals_have_the_names_and_numbers_of_the_rules() {
         );
         assert_eq!(Answer::from_parts(number, 1), None, "a refusal has word 0");
     }
-    for number in [0, 42, 255, u64::MAX] {
+    for number in [0, 44, 255, u64::MAX] {
         assert_eq!(Refusal::from_number(number), None);
     }
 }
@@ -79,7 +81,8 @@ fn refusals_are_listed_in_the_order_of_the_checks() {
         .iter()
         .map(|refusal| refusal.number())
         .collect();
-    let checks: Vec<u64> = (1..=34).chain([41]).chain(35..=40).collect();
+    let checks = (1..=16).chain([43, 42]).chain(17..=34);
+    let checks: Vec<u64> = checks.chain([41]).chain(35..=40).collect();
     assert_eq!(numbers, checks);
 }
 
@@ -88,7 +91,7 @@ fn refusals_compare_by_their_numbers() {
     let mut sorted = Refusal::ALL.to_vec();
     sorted.sort();
     let numbers: Vec<u64> = sorted.iter().map(|refusal| refusal.number()).collect();
-    assert_eq!(numbers, (1..=41).collect::<Vec<_>>());
+    assert_eq!(numbers, (1..=43).collect::<Vec<_>>());
 }
 
 #[test]
@@ -98,7 +101,7 @@ fn statuses_are_those_of_the_rules() {
         let answer = Answer::from_parts(number, 0).expect("an answer");
         assert_eq!(answer.status(), expected);
     }
-    assert_eq!([42, 1_000, u64::MAX].map(status), [500; 3]);
+    assert_eq!([44, 1_000, u64::MAX].map(status), [500; 3]);
 }
 
 #[test]
@@ -113,7 +116,7 @@ fn refusals_are_errors_that_speak_for_themselves() {
         "clock_back: now is before the ledger's last clock"
     );
     let said: BTreeSet<String> = Refusal::ALL.iter().map(ToString::to_string).collect();
-    assert_eq!(said.len(), 41, "no two say the same");
+    assert_eq!(said.len(), 43, "no two say the same");
 }
 
 #[test]
@@ -126,12 +129,12 @@ fn operations_have_the_numbers_of_the_rules() {
         names,
         [
             "grant", "transfer", "open", "release", "refund", "claim", "accept", "dispute",
-            "sweep", "freeze", "caps"
+            "sweep", "freeze", "caps", "close"
         ]
     );
     for (number, &operation) in (1..).zip(Operation::ALL) {
         assert_eq!(operation.number(), number);
         assert_eq!(Operation::from_number(number), Some(operation));
     }
-    assert_eq!([0, 12, 255].map(Operation::from_number), [None; 3]);
+    assert_eq!([0, 13, 255].map(Operation::from_number), [None; 3]);
 }

@@ -7,7 +7,7 @@ use milebeacon::{
 
 const NOW: u64 = 1_700_000_000_000;
 
-fn every_operation(envelope: Envelope) -> [Submission; 11] {
+fn every_operation(envelope: Envelope) -> [Submission; 12] {
     let claim = Claim {
         requester: 8,
         until: NOW + 300_000,
@@ -27,6 +27,7 @@ fn every_operation(envelope: Envelope) -> [Submission; 11] {
         Submission::sweep(NOW, 5),
         Submission::freeze(envelope, Freezable::Wallet(8), true),
         Submission::caps(envelope, 8, 5, 6),
+        Submission::close(envelope, 8),
     ]
 }
 
@@ -57,7 +58,44 @@ fn only_operations_that_ask_carry_the_admin_bit() {
         .filter(|submission| submission.has(Submission::ADMIN))
         .map(|submission| submission.op)
         .collect();
-    assert_eq!(carrying, [1, 4, 5, 10, 11]);
+    assert_eq!(carrying, [1, 4, 5, 10, 11, 12]);
+}
+
+#[test]
+fn a_close_uses_its_target_and_the_admin_bit_and_nothing_else() {
+    let close = Submission::close(Envelope::new(NOW, 1, 4).by_admin(), 8);
+    let fields = Submission {
+        op: 12,
+        flags: Submission::SIGNED | Submission::ADMIN,
+        now: NOW,
+        signer: 1,
+        nonce: 4,
+        issued: NOW,
+        expires: NOW + 60_000,
+        target: 8,
+        ..Submission::default()
+    };
+    assert_eq!(close, fields);
+    let record = close.to_record().expect("well formed");
+    assert_eq!(record[..4], [0xA7, 0x3C, 12, 3]);
+    assert_eq!(record[44..52], [8, 0, 0, 0, 0, 0, 0, 0]);
+
+    // bits 2 to 7, and the words and bytes behind the target
+    for bit in 2..8 {
+        let mut torn = record;
+        torn[3] |= 1 << bit;
+        assert_eq!(Submission::read(&torn), Err(Refusal::MalformedRecord));
+    }
+    for place in 52..RECORD_BYTES {
+        let mut torn = record;
+        torn[place] = 1;
+        assert_eq!(Submission::read(&torn), Err(Refusal::MalformedRecord));
+    }
+    let nobody = Submission { signer: 0, ..close };
+    assert_eq!(nobody.to_record(), Err(Refusal::MalformedRecord));
+    // any target is well formed, and so is one that is not there
+    let system = Submission { target: 0, ..close };
+    assert!(system.to_record().is_ok());
 }
 
 #[test]

@@ -62,8 +62,8 @@ fn every_cell_has_its_place_and_its_name() {
         .collect();
     let expected = (0..GRID_ROWS).flat_map(|row| (0..ANSWERS).map(move |column| (row, column)));
     assert_eq!(places, expected.collect::<Vec<_>>());
-    let last = Cell::refused(Operation::Caps, Refusal::AcceptanceClosed);
-    assert_eq!(last.to_string(), "caps: 41 acceptance_closed");
+    let last = Cell::refused(Operation::Close, Refusal::WalletClosed);
+    assert_eq!(last.to_string(), "close: 43 wallet_closed");
     assert_eq!(Cell::all().last(), Some(last));
     assert_eq!(
         (1..).zip(Figure::CREDITS).find(|(n, f)| f.number() != *n),
@@ -83,7 +83,7 @@ fn a_record_counts_in_the_row_of_its_operation_byte() {
         assert_eq!(report.counts().collect::<Vec<_>>(), [(cell, 1)]);
         assert_eq!(
             cell.row(),
-            if byte <= 11 { usize::from(byte) } else { 0 },
+            if byte <= 12 { usize::from(byte) } else { 0 },
             "{byte}"
         );
         assert_eq!(report.credits(), [0; 5]);
