@@ -8,7 +8,7 @@
 #![allow(unsafe_code)]
 
 use crate::answer::ANSWERS;
-use crate::numbers::{EscrowNumber, ReceiptNumber, WalletNumber};
+use crate::numbers::{EscrowNumber, ReceiptNumber};
 use crate::operation::GRID_ROWS;
 use crate::submission::Submission;
 use crate::tables::Tables;
@@ -32,6 +32,23 @@ pub struct Read {
     /// The fields; all 0 for a malformed record.
     pub submission: Submission,
 }
+
+/// What `milebeacon_wallet_row` finds.
+#[repr(C)]
+#[derive(Clone, Copy, Debug, PartialEq, Eq)]
+pub struct Standing {
+    /// [`WALLET_MISSING`], [`WALLET_LIVE`] or [`WALLET_CLOSED`].
+    pub state: u64,
+    /// The number of the wallet's row, counted from 1; 0 if it is missing.
+    pub number: u64,
+}
+
+/// No wallet has the id.
+pub const WALLET_MISSING: u64 = 0;
+/// One has, and it is not closed.
+pub const WALLET_LIVE: u64 = 1;
+/// One has, and it is closed.
+pub const WALLET_CLOSED: u64 = 2;
 
 /// What `milebeacon_replay` finds.
 #[repr(C)]
@@ -76,10 +93,11 @@ pub type Figures = [u64; 5];
 /// and the row and the column of the entry that it stopped before.
 pub type Named = [u64; 3];
 
-// Two bytes, six of padding, and thirteen words, as the archive has them; seven words of a verdict;
-// the rows and columns of a grid, which the archive writes to.
+// Two bytes, six of padding, and thirteen words, as the archive has them; two words of a standing,
+// seven of a verdict; the rows and columns of a grid, which the archive writes to.
 const _: () = assert!(std::mem::size_of::<Submission>() == 112);
 const _: () = assert!(std::mem::size_of::<Read>() == 120);
+const _: () = assert!(std::mem::size_of::<Standing>() == 16);
 const _: () = assert!(std::mem::size_of::<Verdict>() == 56);
 const _: () = assert!(GRID_ROWS == 13 && ANSWERS == 44);
 
@@ -148,7 +166,7 @@ extern "C" {
         wallets: *const u64,
         wallets_len: usize,
         id: u64,
-    ) -> WalletNumber;
+    ) -> Standing;
     fn milebeacon_escrow_place(
         header: *const u64,
         header_len: usize,
@@ -230,9 +248,10 @@ pub fn status(number: u64) -> u64 {
     unsafe { milebeacon_status(number) }
 }
 
-/// The number of the first wallet row with this id, or 0.
-pub fn wallet_row(header: &[u64], wallets: &[u64], id: u64) -> WalletNumber {
-    // SAFETY: each pointer and count are those of a live slice, which is only read.
+/// Whether the first wallet row with this id is missing, live or closed, and its number.
+pub fn wallet_row(header: &[u64], wallets: &[u64], id: u64) -> Standing {
+    // SAFETY: each pointer and count are those of a live slice, which is only read. Every value of
+    // the returned struct is a number.
     unsafe {
         milebeacon_wallet_row(
             header.as_ptr(),

@@ -8,6 +8,7 @@ use crate::record::RECORD_BYTES;
 use crate::rows::{EscrowRow, JournalRow, ReceiptRow, WalletRow};
 use crate::submission::Submission;
 use crate::tables::{Sizes, Tables};
+use crate::wallet::WalletState;
 
 /// A ledger over five tables. `Ledger` owns them; `Ledger<&mut [u64]>` borrows the caller's.
 ///
@@ -24,7 +25,7 @@ use crate::tables::{Sizes, Tables};
 /// assert_eq!(ledger.settle(&open), Answer::Settled(1));
 /// assert_eq!(ledger.settle(&open), Answer::Refused(Refusal::NonceSeen));
 ///
-/// let sender = ledger.wallet(7).expect("it was granted credits");
+/// let sender = ledger.wallet(7).live().expect("it was granted credits");
 /// assert_eq!((sender.balance(), sender.locked()), (30_000_000, 20_000_000));
 /// # Ok::<(), Refusal>(())
 /// ```
@@ -129,14 +130,21 @@ impl<T: AsRef<[u64]>> Ledger<T> {
         self.tables.as_ref()
     }
 
-    /// The wallet of a party.
-    pub fn wallet(&self, id: u64) -> Option<WalletRow<'_>> {
+    /// The wallet of a party: missing, live or closed.
+    ///
+    /// ```
+    /// # use milebeacon::{Ledger, Sizes};
+    /// # let ledger = Ledger::new(Sizes::PROGRAM)?;
+    /// let has_left = ledger.wallet(7).is_closed();
+    /// let to_spend = ledger.wallet(7).live().map_or(0, |row| row.balance());
+    /// # assert_eq!((has_left, to_spend), (false, 0));
+    /// # Ok::<(), milebeacon::Refusal>(())
+    /// ```
+    pub fn wallet(&self, id: u64) -> WalletState<WalletRow<'_>> {
         let Tables {
             header, wallets, ..
         } = self.tables();
-        let number = lookup::wallet_number(header, wallets, id)?;
-        let before = usize::try_from(number.0).ok()?.checked_sub(1)?;
-        WalletRow::new(wallets.chunks_exact(WalletRow::WORDS).nth(before)?)
+        lookup::wallet_row(header, wallets, id)
     }
 
     /// The escrow with this number.
@@ -155,7 +163,7 @@ impl<T: AsRef<[u64]>> Ledger<T> {
         lookup::receipt_row(header, receipts, number)
     }
 
-    /// The wallets written, in row order.
+    /// The wallets written, closed ones among them, in row order.
     pub fn wallets(&self) -> impl Iterator<Item = WalletRow<'_>> + '_ {
         let rows = self.tables().wallets.chunks_exact(WalletRow::WORDS);
         rows.take(self.count(4)).filter_map(WalletRow::new)

@@ -24,7 +24,7 @@
 //!
 //! ledger.settle(&Submission::release(Envelope::new(now, 7, 2), escrow)).settled()?;
 //! assert_eq!(ledger.escrow(escrow).unwrap().state(), Some(EscrowState::Released));
-//! assert_eq!(ledger.wallet(8).unwrap().balance(), 20_000_000);
+//! assert_eq!(ledger.wallet(8).live().unwrap().balance(), 20_000_000);
 //! # Ok::<(), milebeacon::Refusal>(())
 //! ```
 //!
@@ -54,6 +54,7 @@ mod report;
 mod rows;
 mod submission;
 mod tables;
+mod wallet;
 
 pub use answer::{status, Answer, Refusal, ANSWERS};
 pub use claim::Claim;
@@ -71,3 +72,4 @@ pub use report::{Added, Report};
 pub use rows::{EscrowRow, EscrowState, JournalRow, ReceiptRow, ReceiptState, WalletRow};
 pub use submission::{Freezable, Submission};
 pub use tables::{Sizes, Tables, HEADER_WORDS};
+pub use wallet::WalletState;

@@ -56,7 +56,7 @@ row! {
     balance = 1;
     /// Credits locked in open escrows.
     locked = 2;
-    /// 1 if frozen, 0 if not.
+    /// 1 if frozen, 2 if closed, 0 if neither.
     frozen_word = 3;
     /// The most that one payment may be.
     per_transaction_cap = 4;
@@ -186,9 +186,14 @@ state! {
 }
 
 impl WalletRow<'_> {
-    /// Whether the wallet is frozen.
+    /// Whether the wallet is frozen: it can be thawed again, which a closed one cannot.
     pub fn is_frozen(&self) -> bool {
         self.frozen_word() == 1
+    }
+
+    /// Whether the wallet is closed, for good.
+    pub fn is_closed(&self) -> bool {
+        self.frozen_word() == 2
     }
 }
 

@@ -37,7 +37,7 @@ fn release(now: u64, nonce: u64) -> Submission {
 }
 
 fn has(ledger: &Ledger, id: u64) -> (u64, u64) {
-    let wallet = ledger.wallet(id).expect("a wallet");
+    let wallet = ledger.wallet(id).live().expect("a live wallet");
     (wallet.balance(), wallet.locked())
 }
 

@@ -77,7 +77,8 @@ fn what_becomes_of_the_escrow_gives_no_room_back() {
         let mut ledger = capped();
         settles(&mut ledger, open(NOW, 7, 1, CAP));
         settles(&mut ledger, ending);
-        assert_eq!(ledger.wallet(7).expect("a wallet").locked(), 0);
+        let wallet = ledger.wallet(7).live().expect("a live wallet");
+        assert_eq!(wallet.locked(), 0);
         is_over_the_cap(&mut ledger, transfer(DAY_ENDS, 3, 1));
         settles(&mut ledger, transfer(DAY_OVER, 3, 1));
     }

@@ -2,7 +2,7 @@
 
 use milebeacon::{
     lookup, Answer, Envelope, EscrowNumber, EscrowRow, EscrowState, Freezable, Ledger,
-    ReceiptNumber, Refusal, Sizes, Submission, Tables,
+    ReceiptNumber, Refusal, Sizes, Submission, Tables, WalletState,
 };
 
 const NOW: u64 = 1_700_000_000_000;
@@ -35,7 +35,7 @@ fn rows_are_the_callers_own() {
     assert_eq!(ledger.escrow(EscrowNumber(0)), None);
     assert_eq!(ledger.escrow(EscrowNumber(2)), None);
     assert_eq!(ledger.receipt(ReceiptNumber(1)), None);
-    assert_eq!(ledger.wallet(9), None);
+    assert_eq!(ledger.wallet(9), WalletState::Missing);
     let ids: Vec<u64> = ledger.wallets().map(|wallet| wallet.id()).collect();
     assert_eq!(ids, [7, 8]);
     let settled: Vec<u64> = ledger.journal().map(|row| row.operation_word()).collect();
@@ -109,7 +109,6 @@ fn views_of_damaged_tables_say_what_stands_there() {
     let row = lookup::escrow_row(&header, &escrows, EscrowNumber(1)).expect("written");
     assert_eq!((row.state(), row.state_word()), (None, 9));
     assert_eq!(EscrowRow::new(&escrows[..7]), None);
-    assert_eq!(lookup::wallet_number(&header[..7], &escrows, 7), None);
     let shown = format!("{row:?}");
     assert!(
         shown.starts_with("EscrowRow { from: 7, to: 8, amount: 20,"),

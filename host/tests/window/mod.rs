@@ -110,7 +110,7 @@ pub fn ends(ledger: &Ledger) -> Ends {
 /// Balance and locked credits of 7, and of 8.
 pub fn credits(ledger: &Ledger) -> [(u64, u64); 2] {
     [7, 8].map(|id| {
-        let wallet = ledger.wallet(id).expect("a wallet");
+        let wallet = ledger.wallet(id).live().expect("a live wallet");
         (wallet.balance(), wallet.locked())
     })
 }
