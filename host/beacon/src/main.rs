@@ -13,6 +13,7 @@ mod csv;
 mod explain;
 mod files;
 mod log;
+mod operations;
 mod problem;
 mod record;
 mod replay;
