@@ -66,7 +66,8 @@ fn command() -> Command {
                 .about("Settles a file of records on a fresh ledger")
                 .long_about(
                     "Settles a file of records on a fresh ledger. Prints the answer to each \
-                     record, then the wallets, escrows and receipts.",
+                     record, then the wallets, which are live, frozen or closed, the escrows and \
+                     the receipts.",
                 )
                 .arg(file())
                 .arg(Arg::new("record").long("record").value_name("RECORDING").help(

@@ -77,6 +77,7 @@ pub fn sentence(s: &Submission) -> String {
             "set the caps of wallet {target} to {amount} a payment and {} a day",
             credits(s.link)
         ),
+        Some(Operation::Close) => format!("close wallet {target}"),
         Some(other) => other.to_string(),
         None => format!("operation {}", s.op),
     };

@@ -39,10 +39,24 @@ The last moment for a reply is the receipt's acceptance deadline. A later one is
 answered 41 acceptance_closed, also if no sweep has come yet. The sweep accepts a
 receipt that was claimed with --auto-accept, and any other expires.";
 
+/// Which wallets can be closed, and what that means for them.
+const CLOSING: &str = "\
+Only an empty wallet can be closed. One that has balance, locked credits or an open
+escrow to it is answered 42 wallet_not_empty, also if that escrow is past its
+deadline and waits for a sweep. A closed wallet keeps its row and stays closed: a
+record that names it, another close too, is answered 43 wallet_closed. Wallets can
+be closed while the system is frozen.";
+
+/// What becomes of a record that names a closed wallet, by its target or by its signer too.
+const TARGET_CLOSED: &str = "If the wallet is closed, the answer is 43 wallet_closed.";
+const EITHER_CLOSED: &str =
+    "If the signer's or the target's wallet is closed, the answer is 43 wallet_closed.";
+
 /// The options of one operation: what its record uses, and nothing else.
 fn operation_command(operation: Operation) -> Command {
     let mut command = Command::new(operation.name())
         .about(about(operation))
+        .after_help(more(operation))
         .arg(maybe(
             "now",
             "The clock, in milliseconds [default: this machine's]",
@@ -100,13 +114,10 @@ fn operation_command(operation: Operation) -> Command {
                     .help("The hash of the work, 64 hex digits [default: zeros]"),
             )
             .arg(flag("auto-accept", "Accept it when its time is over")),
-        Operation::Accept => command
-            .arg(number("target", "The receipt's number"))
-            .after_help(REPLY_WINDOW),
+        Operation::Accept => command.arg(number("target", "The receipt's number")),
         Operation::Dispute => command
             .arg(number("target", "The receipt's number"))
-            .arg(flag("reason", "A reason was given"))
-            .after_help(REPLY_WINDOW),
+            .arg(flag("reason", "A reason was given")),
         Operation::Sweep => {
             command.arg(number("amount", "The most rows to close, 1 to 1000").alias("limit"))
         }
@@ -125,6 +136,7 @@ fn operation_command(operation: Operation) -> Command {
                 )
                 .alias("daily"),
             ),
+        Operation::Close => command.arg(admin).arg(number("target", "The wallet")),
         _ => command,
     }
 }
@@ -142,6 +154,18 @@ fn about(operation: Operation) -> &'static str {
         Operation::Sweep => "Closes receipts and escrows whose deadlines have passed",
         Operation::Freeze => "Freezes a wallet or the whole system, by an admin",
         Operation::Caps => "Sets a wallet's caps, by an admin",
+        Operation::Close => "Closes an empty wallet for good, by an admin",
+        _ => "",
+    }
+}
+
+/// What a person had better know before writing one.
+fn more(operation: Operation) -> &'static str {
+    match operation {
+        Operation::Transfer | Operation::Open | Operation::Claim => EITHER_CLOSED,
+        Operation::Grant | Operation::Freeze | Operation::Caps => TARGET_CLOSED,
+        Operation::Accept | Operation::Dispute => REPLY_WINDOW,
+        Operation::Close => CLOSING,
         _ => "",
     }
 }

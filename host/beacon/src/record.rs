@@ -79,6 +79,7 @@ fn submission(operation: Operation, options: &Options<'_>) -> Result<Submission,
             | Operation::Refund
             | Operation::Freeze
             | Operation::Caps
+            | Operation::Close
     );
     let issued = options.maybe("issued").unwrap_or(now);
     let envelope = Envelope {
@@ -132,6 +133,7 @@ fn submission(operation: Operation, options: &Options<'_>) -> Result<Submission,
         Operation::Caps => {
             Submission::caps(envelope, target, amount(options), options.number("link"))
         }
+        Operation::Close => Submission::close(envelope, target),
         other => return Err(Problem::Usage(format!("{other} has no options here"))),
     })
 }

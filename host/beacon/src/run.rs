@@ -3,7 +3,9 @@
 use std::fmt::Write as _;
 use std::process::ExitCode;
 
-use milebeacon::{Answer, Ledger, Operation, Record, Recorder, Refusal, Sizes, RECORD_BYTES};
+use milebeacon::{
+    Answer, Ledger, Operation, Record, Recorder, Refusal, Sizes, WalletRow, RECORD_BYTES,
+};
 
 use crate::files;
 use crate::log::Log;
@@ -106,7 +108,7 @@ fn wallets(ledger: &Ledger) -> String {
         "wallet",
         "balance",
         "locked",
-        "frozen",
+        "state",
         "cap a payment",
         "cap a day",
     ];
@@ -117,13 +119,23 @@ fn wallets(ledger: &Ledger) -> String {
                 wallet.id().to_string(),
                 credits(wallet.balance()),
                 credits(wallet.locked()),
-                yes(wallet.is_frozen()),
+                state(wallet).to_owned(),
                 credits(wallet.per_transaction_cap()),
                 credits(wallet.daily_cap()),
             ]
         })
         .collect();
     table("wallets", &names, &rows)
+}
+
+fn state(wallet: WalletRow<'_>) -> &'static str {
+    if wallet.is_closed() {
+        "closed"
+    } else if wallet.is_frozen() {
+        "frozen"
+    } else {
+        "live"
+    }
 }
 
 fn escrows(ledger: &Ledger) -> String {

@@ -6,7 +6,7 @@ use std::fs;
 use std::io::Write;
 use std::process::Stdio;
 
-use milebeacon::{Claim, Envelope, EscrowNumber, Submission, RECORD_BYTES};
+use milebeacon::{Claim, Envelope, EscrowNumber, Operation, Submission, RECORD_BYTES};
 
 use tool::{beacon, fails, file, first_records, succeeds, text};
 
@@ -52,7 +52,9 @@ fn every_operation_writes_a_record() {
         "sweep --limit 5",
         "freeze --signer 1 --target 0 --admin",
         "caps --signer 1 --target 7 --amount 5 --daily 6 --admin",
+        "close --signer 1 --target 7 --admin",
     ];
+    assert_eq!(operations.len(), Operation::ALL.len());
     for (number, words) in (1..).zip(operations) {
         let words: Vec<&str> = ["record"].into_iter().chain(words.split(' ')).collect();
         let record = succeeds(&words);
@@ -71,9 +73,9 @@ fn a_first_record_settles_and_its_retry_does_not() {
 3: open: 11 nonce_seen, word 0, status 409
 
 wallets
-  wallet     balance      locked  frozen  cap a payment      cap a day
-       7  30,000,000  20,000,000      no    100,000,000  1,000,000,000
-       8           0           0      no    100,000,000  1,000,000,000
+  wallet     balance      locked  state  cap a payment      cap a day
+       7  30,000,000  20,000,000   live    100,000,000  1,000,000,000
+       8           0           0   live    100,000,000  1,000,000,000
 
 escrows
   escrow  from  to      amount  deadline  state  opened  closed  by

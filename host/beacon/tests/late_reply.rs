@@ -113,7 +113,7 @@ fn a_report_has_late_replies_by_their_number() {
     let row: Vec<&str> = row.split_whitespace().collect();
     assert_eq!(
         row.join(" "),
-        "41 acceptance_closed - - - - - - - 1 2 - - - 3"
+        "41 acceptance_closed - - - - - - - 1 2 - - - - 3"
     );
 
     let csv = succeeds(&["report", "--csv", &path]);
