@@ -136,8 +136,8 @@ impl<T: AsRef<[u64]>> Ledger<T> {
     /// # use milebeacon::{Ledger, Sizes};
     /// # let ledger = Ledger::new(Sizes::PROGRAM)?;
     /// let has_left = ledger.wallet(7).is_closed();
-    /// let to_spend = ledger.wallet(7).live().map_or(0, |row| row.balance());
-    /// # assert_eq!((has_left, to_spend), (false, 0));
+    /// let balance = ledger.wallet(7).live().map_or(0, |row| row.balance());
+    /// # assert_eq!((has_left, balance), (false, 0));
     /// # Ok::<(), milebeacon::Refusal>(())
     /// ```
     pub fn wallet(&self, id: u64) -> WalletState<WalletRow<'_>> {

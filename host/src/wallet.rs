@@ -14,7 +14,7 @@ use crate::rows::WalletRow;
 /// fn what_to_say<T: AsRef<[u64]>>(ledger: &Ledger<T>, id: u64) -> String {
 ///     match ledger.wallet(id) {
 ///         WalletState::Missing => format!("{id} has no wallet yet: a payment to it makes one"),
-///         WalletState::Live(row) => format!("{id} has {} to spend", row.balance()),
+///         WalletState::Live(row) => format!("{id} has {}", row.balance()),
 ///         WalletState::Closed(_) => format!("{id} has left, and can be paid no more"),
 ///     }
 /// }
@@ -25,7 +25,7 @@ use crate::rows::WalletRow;
 /// assert_eq!(what_to_say(&ledger, 7), "7 has no wallet yet: a payment to it makes one");
 ///
 /// ledger.settle(&Submission::grant(admin(1), 7, 500)).settled()?;
-/// assert_eq!(what_to_say(&ledger, 7), "7 has 500 to spend");
+/// assert_eq!(what_to_say(&ledger, 7), "7 has 500");
 ///
 /// ledger.settle(&Submission::transfer(crew, 8, 500)).settled()?;
 /// ledger.settle(&Submission::close(admin(2), 7)).settled()?;
