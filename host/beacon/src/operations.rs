@@ -54,7 +54,7 @@ const EITHER_CLOSED: &str =
 
 /// The options of one operation: what its record uses, and nothing else.
 fn operation_command(operation: Operation) -> Command {
-    let mut command = Command::new(operation.name())
+    let command = Command::new(operation.name())
         .about(about(operation))
         .after_help(more(operation))
         .arg(maybe(
@@ -68,19 +68,28 @@ fn operation_command(operation: Operation) -> Command {
                 .help("Append the record to FILE [default: standard output]"),
         );
     if operation.has_envelope() {
-        command = command
-            .arg(number("signer", "The party that signs; not 0"))
-            .arg(maybe(
-                "nonce",
-                "The signer's number for this record [default: 1]",
-            ))
-            .arg(maybe("issued", "When it was issued [default: now]"))
-            .arg(maybe(
-                "expires",
-                "Until when it may settle [default: a minute after issue]",
-            ))
-            .arg(flag("unsigned", "No valid signature is held"));
+        own_options(enveloped(command), operation)
+    } else {
+        own_options(command, operation)
     }
+}
+
+fn enveloped(command: Command) -> Command {
+    command
+        .arg(number("signer", "The party that signs; not 0"))
+        .arg(maybe(
+            "nonce",
+            "The signer's number for this record [default: 1]",
+        ))
+        .arg(maybe("issued", "When it was issued [default: now]"))
+        .arg(maybe(
+            "expires",
+            "Until when it may settle [default: a minute after issue]",
+        ))
+        .arg(flag("unsigned", "No valid signature is held"))
+}
+
+fn own_options(command: Command, operation: Operation) -> Command {
     let admin = flag("admin", "The signer is an admin");
     match operation {
         Operation::Grant => command
