@@ -18,6 +18,7 @@ mod settle;
 mod sound;
 mod status;
 mod tables;
+mod wallets;
 
 pub use lookups::{escrow_row, receipt_row, wallet_row};
 pub use record::{read, write, Submission};
@@ -26,6 +27,7 @@ pub use report::{add_recording, Added, Figure, Grid, Report, GRID_COLUMNS, GRID_
 pub use run::run;
 pub use status::status;
 pub use tables::{fresh, Tables};
+pub use wallets::FoundWallet;
 
 /// "Units are ... milliseconds"; times are "at most 2^48 − 1".
 const LAST_TIME: u64 = (1 << 48) - 1;

@@ -1,7 +1,8 @@
 //! Section "Row lookups".
 
-use crate::rows::{Escrow, Receipt, Row, Wallet};
+use crate::rows::{Escrow, Frozen, Receipt, Row, Wallet, FROZEN_WORD};
 use crate::tables::{rows_that_fit, HEADER_WORDS};
+use crate::wallets::FoundWallet;
 
 /// The written part of a table, whose count is the header's word at `place`:
 /// none "for a wrong header or table length, a written count larger than the
@@ -39,18 +40,21 @@ pub fn receipt_row<'a>(header: &[u64], receipts: &'a [u64], number: u64) -> &'a 
 }
 
 /// "the number of the first written row with that id, or 0 if there is none,
-/// the id is 0, or a length or count is wrong as above".
-pub fn wallet_row(header: &[u64], wallets: &[u64], id: u64) -> u64 {
+/// the id is 0, or a length or count is wrong as above"; since request 6/13 it
+/// tells "a closed wallet from a missing and a live one". Missing is what was
+/// 0; that row's frozen word alone makes it closed.
+pub fn wallet_row(header: &[u64], wallets: &[u64], id: u64) -> FoundWallet<u64> {
     if id == 0 {
-        return 0;
+        return FoundWallet::Missing;
     }
     let found = written_part::<Wallet>(header, 4, wallets).and_then(|written| {
-        written
-            .chunks_exact(Wallet::WORDS)
-            .position(|words| words[0] == id)
+        let mut rows = (1..).zip(written.chunks_exact(Wallet::WORDS));
+        rows.find(|(_, words)| words[0] == id)
     });
     match found {
-        Some(before) => before as u64 + 1,
-        None => 0,
+        Some((number, words)) => {
+            FoundWallet::written(number, words[FROZEN_WORD] == Frozen::Closed as u64)
+        }
+        None => FoundWallet::Missing,
     }
 }

@@ -1,8 +1,9 @@
 //! Section "Numbered answers, in order of check", from 4 on.
 
 use crate::record::{Operation, Submission, ADMIN, REASON, SIGNATURE};
-use crate::rows::{Escrow, Receipt, ReceiptState, Wallet};
+use crate::rows::{Escrow, Frozen, Receipt, ReceiptState, Wallet};
 use crate::tables::Ledger;
+use crate::wallets::FoundWallet;
 use crate::{MOST_AMOUNT, MOST_GRANTED};
 
 use Operation::{
@@ -17,9 +18,9 @@ struct Case<'a> {
     op: Operation,
     s: &'a Submission,
     /// The signer's wallet.
-    sender: Option<&'a Wallet>,
+    sender: FoundWallet<&'a Wallet>,
     /// The wallet whose id is target.
-    target: Option<&'a Wallet>,
+    target: FoundWallet<&'a Wallet>,
     /// The escrow of 4 and 5 (target) or of a linked 6 (link).
     escrow: Option<&'a Escrow>,
     /// The receipt of 7 and 8 (target).
@@ -51,9 +52,10 @@ const CONDITIONS: [(u64, Condition); 38] = [
     // nonce_seen: a journal row has signer and nonce (not 9)
     (11, |c| !c.is(&[Sweep]) && nonce_seen(c)),
     (12, amount_out_of_range),
-    // sender_not_found, sender_frozen: signer's wallet (2, 3)
-    (13, |c| c.is(&[Transfer, Open]) && c.sender.is_none()),
-    (14, |c| c.pays(|sender| sender.frozen)),
+    // sender_not_found, sender_frozen: signer's wallet (2, 3); of request 6/13: "refusal 14 is
+    // given for the word 1 only"
+    (13, |c| c.is(&[Transfer, Open]) && c.sender.is_missing()),
+    (14, |c| c.pays(|sender| sender.frozen == Frozen::Yes)),
     // recipient_invalid: target 0 (1–3, 6) or target = signer (2, 3, 6)
     (15, |c| {
         (c.is(&[Grant, Transfer, Open, Claim]) && c.s.target == 0)
@@ -61,7 +63,7 @@ const CONDITIONS: [(u64, Condition); 38] = [
     }),
     // wallet_not_found: no wallet for target (10 with target not 0; 11)
     (16, |c| {
-        ((c.is(&[Freeze]) && c.s.target != 0) || c.is(&[Caps])) && c.target.is_none()
+        ((c.is(&[Freeze]) && c.s.target != 0) || c.is(&[Caps])) && c.target.is_missing()
     }),
     // insufficient_balance: balance < amount (2, 3)
     (17, |c| c.pays(|sender| sender.balance < c.s.amount)),
@@ -78,8 +80,8 @@ const CONDITIONS: [(u64, Condition); 38] = [
         c.is(&[Open]) && after(c.s.until, c.s.now, 604_800_000)
     }),
     // provider_not_found, requester_not_found: no wallet for signer; for target (6)
-    (22, |c| c.is(&[Claim]) && c.sender.is_none()),
-    (23, |c| c.is(&[Claim]) && c.target.is_none()),
+    (22, |c| c.is(&[Claim]) && c.sender.is_missing()),
+    (23, |c| c.is(&[Claim]) && c.target.is_missing()),
     // acceptance_window_too_short: until < issued + 300,000 (6)
     (24, |c| {
         c.is(&[Claim]) && u128::from(c.s.until) < u128::from(c.s.issued) + 300_000
@@ -134,7 +136,7 @@ const CONDITIONS: [(u64, Condition); 38] = [
     }),
     // wallet_table_full: target needs a row, none unwritten (1–3)
     (37, |c| {
-        c.is(&[Grant, Transfer, Open]) && c.target.is_none() && c.ledger.wallets.is_full()
+        c.is(&[Grant, Transfer, Open]) && c.target.is_missing() && c.ledger.wallets.is_full()
     }),
     // escrow_, receipt_, journal_table_full: no unwritten row (3; 6; all but 9)
     (38, |c| c.is(&[Open]) && c.ledger.escrows.is_full()),
@@ -148,9 +150,9 @@ impl Case<'_> {
         listed.contains(&self.op)
     }
 
-    /// A condition about the signer's wallet (2, 3).
+    /// A condition about the signer's wallet (2, 3); the row is there if it is closed, too.
     fn pays(&self, condition: impl Fn(&Wallet) -> bool) -> bool {
-        self.is(&[Transfer, Open]) && self.sender.map_or(false, condition)
+        self.is(&[Transfer, Open]) && self.sender.live_or_closed().map_or(false, condition)
     }
 
     /// A condition about the named escrow (4, 5, linked 6).

@@ -6,8 +6,9 @@ pub trait Row: Sized {
     const WORDS: usize;
     /// "At most ... rows."
     const MOST_ROWS: usize;
-    /// None if a flag isn't 0 or 1, or a state not 1 to 4: such a row is in no
-    /// sound ledger. `words` holds exactly `WORDS` words.
+    /// None if a flag isn't 0 or 1, a wallet's frozen word not 0 to 2, or a
+    /// state not 1 to 4: such a row is in no sound ledger. `words` holds exactly
+    /// `WORDS` words.
     fn from_words(words: &[u64]) -> Option<Self>;
     /// Back into exactly `WORDS` words.
     fn put_words(&self, words: &mut [u64]);
@@ -22,13 +23,36 @@ pub fn flag(word: u64) -> Option<bool> {
     }
 }
 
+/// The place of a wallet's frozen word in its row.
+pub const FROZEN_WORD: usize = 3;
+
+/// A wallet's frozen word: "frozen (0/1)", and of request 6/13, for one that is
+/// closed: "The frozen word becomes 2, and a sound ledger allows it".
+#[derive(Clone, Copy, PartialEq, Eq)]
+pub enum Frozen {
+    No = 0,
+    Yes = 1,
+    Closed = 2,
+}
+
+impl Frozen {
+    fn numbered(word: u64) -> Option<Frozen> {
+        match word {
+            0 => Some(Frozen::No),
+            1 => Some(Frozen::Yes),
+            2 => Some(Frozen::Closed),
+            _ => None,
+        }
+    }
+}
+
 /// "Wallet, 6 words: id, balance, locked, frozen (0/1), per-transaction cap,
 /// daily cap. At most 1,024 rows."
 pub struct Wallet {
     pub id: u64,
     pub balance: u64,
     pub locked: u64,
-    pub frozen: bool,
+    pub frozen: Frozen,
     pub per_tx_cap: u64,
     pub daily_cap: u64,
 }
@@ -42,7 +66,7 @@ impl Row for Wallet {
             id: words[0],
             balance: words[1],
             locked: words[2],
-            frozen: flag(words[3])?,
+            frozen: Frozen::numbered(words[FROZEN_WORD])?,
             per_tx_cap: words[4],
             daily_cap: words[5],
         })
@@ -53,7 +77,7 @@ impl Row for Wallet {
             self.id,
             self.balance,
             self.locked,
-            u64::from(self.frozen),
+            self.frozen as u64,
             self.per_tx_cap,
             self.daily_cap,
         ]);

@@ -3,7 +3,7 @@
 //! are there, a sender holds what it gives, and no sum exceeds 10^18.
 
 use crate::record::{Operation, Submission, AUTO_OR_FREEZE};
-use crate::rows::{Entry, Escrow, EscrowState, Receipt, ReceiptState, Wallet};
+use crate::rows::{Entry, Escrow, EscrowState, Frozen, Receipt, ReceiptState, Wallet};
 use crate::tables::Ledger;
 
 /// "per-transaction cap 100,000,000, daily cap 1,000,000,000".
@@ -59,21 +59,23 @@ pub fn settle(ledger: &mut Ledger, operation: Operation, s: &Submission) -> u64 
 /// "In 1 to 3 a missing target wallet is made: zeros, per-transaction cap
 /// 100,000,000, daily cap 1,000,000,000."
 fn make_if_missing(ledger: &mut Ledger, id: u64) {
-    if ledger.wallet(id).is_none() {
+    if ledger.wallet(id).is_missing() {
         ledger.add_wallet(Wallet {
             id,
             balance: 0,
             locked: 0,
-            frozen: false,
+            frozen: Frozen::No,
             per_tx_cap: FIRST_PER_TX_CAP,
             daily_cap: FIRST_DAILY_CAP,
         });
     }
 }
 
-/// Changes the wallet with this id.
+/// Changes the wallet with this id. A closed one too: what an escrow that ends
+/// pays to it, or returns to it, is in its row, and it stays closed. Only lent
+/// tables have such an escrow; who names a closed wallet itself is refused.
 fn change(ledger: &mut Ledger, id: u64, how: impl FnOnce(&mut Wallet)) {
-    if let Some(wallet) = ledger.wallet_mut(id) {
+    if let Some(wallet) = ledger.wallet_mut(id).live_or_closed() {
         how(wallet);
     }
 }
@@ -194,10 +196,11 @@ fn accept(ledger: &mut Ledger, number: u64, now: u64, signer: u64) -> u64 {
 /// "Freeze sets the wallet's frozen word, or the system's for target 0, to bit
 /// 2."
 fn freeze(ledger: &mut Ledger, s: &Submission) -> u64 {
-    let frozen = s.has(AUTO_OR_FREEZE);
+    let set = s.has(AUTO_OR_FREEZE);
     if s.target == 0 {
-        ledger.system_frozen = frozen;
+        ledger.system_frozen = set;
     } else {
+        let frozen = if set { Frozen::Yes } else { Frozen::No };
         change(ledger, s.target, |wallet| wallet.frozen = frozen);
     }
     0

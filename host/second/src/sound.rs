@@ -7,7 +7,8 @@ use crate::tables::{decode, Ledger, Tables};
 use crate::{LAST_TIME, MOST_AMOUNT, MOST_GRANTED};
 
 /// The decoded ledger if it is sound. Decoding already refuses "flags 0 or 1;
-/// counts within their tables; written states 1 to 4"; the rest is here.
+/// counts within their tables; written states 1 to 4", and a wallet's frozen
+/// word above 2; the rest is here.
 pub fn sound_ledger(tables: &Tables<'_>) -> Option<Ledger> {
     decode(tables).filter(is_sound)
 }
@@ -44,12 +45,12 @@ fn amount_sound(amount: u64) -> bool {
 }
 
 /// "each escrow names two different written wallets and an amount of 1 to
-/// 10^15".
+/// 10^15". A closed wallet is a written one.
 fn escrow_sound(ledger: &Ledger, escrow: &Escrow) -> bool {
     times_sound(&[escrow.deadline, escrow.opened_at, escrow.closed_at])
         && escrow.from != escrow.to
-        && ledger.wallet(escrow.from).is_some()
-        && ledger.wallet(escrow.to).is_some()
+        && !ledger.wallet(escrow.from).is_missing()
+        && !ledger.wallet(escrow.to).is_missing()
         && amount_sound(escrow.amount)
 }
 

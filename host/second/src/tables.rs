@@ -2,7 +2,8 @@
 
 use std::collections::HashMap;
 
-use crate::rows::{flag, Entry, Escrow, Receipt, Row, Wallet};
+use crate::rows::{flag, Entry, Escrow, Frozen, Receipt, Row, Wallet};
+use crate::wallets::FoundWallet;
 
 /// "Header, exactly 8 words".
 pub const HEADER_WORDS: usize = 8;
@@ -112,14 +113,28 @@ pub struct Ledger {
 }
 
 impl Ledger {
-    pub fn wallet(&self, id: u64) -> Option<&Wallet> {
-        let place = *self.wallet_places.get(&id)?;
-        self.wallets.rows.get(place)
+    fn wallet_place(&self, id: u64) -> Option<usize> {
+        self.wallet_places.get(&id).copied()
     }
 
-    pub fn wallet_mut(&mut self, id: u64) -> Option<&mut Wallet> {
-        let place = *self.wallet_places.get(&id)?;
-        self.wallets.rows.get_mut(place)
+    /// "tell a closed wallet from a missing and a live one".
+    pub fn wallet(&self, id: u64) -> FoundWallet<&Wallet> {
+        let place = self.wallet_place(id);
+        match place.and_then(|place| self.wallets.rows.get(place)) {
+            Some(wallet) => FoundWallet::written(wallet, wallet.frozen == Frozen::Closed),
+            None => FoundWallet::Missing,
+        }
+    }
+
+    pub fn wallet_mut(&mut self, id: u64) -> FoundWallet<&mut Wallet> {
+        let place = self.wallet_place(id);
+        match place.and_then(|place| self.wallets.rows.get_mut(place)) {
+            Some(wallet) => {
+                let closed = wallet.frozen == Frozen::Closed;
+                FoundWallet::written(wallet, closed)
+            }
+            None => FoundWallet::Missing,
+        }
     }
 
     pub fn add_wallet(&mut self, wallet: Wallet) {

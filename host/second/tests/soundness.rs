@@ -62,8 +62,25 @@ fn wallet_clauses() {
     assert!(!after(|w| w.wallets[1] += 1));
     assert!(!after(|w| w.wallets[1] = u64::MAX));
     assert!(!after(|w| w.wallets[2] += 1));
-    assert!(after(|w| w.wallets[3] = 1));
-    assert!(!after(|w| w.wallets[3] = 2));
+    // Since request 6/13 it may be 2, also with credits, locked or not (7), with an open escrow
+    // to it (8) and with none of them; and that of all.
+    for row in [0, 6, 12] {
+        assert!(after(|w| w.wallets[row + 3] = 1));
+        assert!(after(|w| w.wallets[row + 3] = 2));
+        for word in [3, 4, 258, u64::MAX - 1, u64::MAX] {
+            assert!(!after(|w| w.wallets[row + 3] = word));
+        }
+    }
+    assert!(after(|w| [3, 9, 15]
+        .iter()
+        .for_each(|&at| w.wallets[at] = 2)));
+    // The credits of a closed wallet are counted as before.
+    for word in [1, 2] {
+        assert!(!after(|w| {
+            w.wallets[3] = 2;
+            w.wallets[word] += 1;
+        }));
+    }
     assert!(after(|w| w.wallets[4] = u64::MAX));
     assert!(after(|w| w.wallets[5] = u64::MAX));
     // Moving a credit from locked to balance keeps the total only.
@@ -164,7 +181,7 @@ fn journal_clauses() {
         let over = MOST + 1;
         assert!(!after(|w| w.journal[2..5].copy_from_slice(&[op, 9, over])));
     }
-    for op in [0, 1, 4, 11, u64::MAX] {
+    for op in [0, 1, 4, 11, 12, u64::MAX] {
         let most = u64::MAX;
         assert!(after(|w| w.journal[2..5].copy_from_slice(&[op, 9, most])));
     }
