@@ -44,7 +44,8 @@ impl Submission {
     }
 }
 
-/// The first column of the table of operations.
+/// The first column of the table of operations, and operation 12 of request
+/// 6/13.
 #[derive(Clone, Copy, Debug, PartialEq, Eq)]
 pub enum Operation {
     Grant,
@@ -58,6 +59,7 @@ pub enum Operation {
     Sweep,
     Freeze,
     Caps,
+    Close,
 }
 
 impl Operation {
@@ -74,6 +76,7 @@ impl Operation {
             9 => Operation::Sweep,
             10 => Operation::Freeze,
             11 => Operation::Caps,
+            12 => Operation::Close,
             _ => return None,
         })
     }
@@ -116,7 +119,8 @@ fn uses(operation: Operation) -> Uses {
             until: true,
             ..target
         },
-        Operation::Release | Operation::Refund => Uses {
+        // Of request 6/13: "Operation 12 ...: target, bit 1."
+        Operation::Release | Operation::Refund | Operation::Close => Uses {
             bits: ADMIN,
             ..target
         },

@@ -1,13 +1,13 @@
 //! Section "Numbered answers, in order of check", from 4 on.
 
 use crate::record::{Operation, Submission, ADMIN, REASON, SIGNATURE};
-use crate::rows::{Escrow, Frozen, Receipt, ReceiptState, Wallet};
+use crate::rows::{Escrow, EscrowState, Frozen, Receipt, ReceiptState, Wallet};
 use crate::tables::Ledger;
 use crate::wallets::FoundWallet;
 use crate::{MOST_AMOUNT, MOST_GRANTED};
 
 use Operation::{
-    Accept, Caps, Claim, Dispute, Freeze, Grant, Open, Refund, Release, Sweep, Transfer,
+    Accept, Caps, Claim, Close, Dispute, Freeze, Grant, Open, Refund, Release, Sweep, Transfer,
 };
 
 /// What a condition is asked of: the ledger, the submission, and the rows the
@@ -32,15 +32,19 @@ type Condition = fn(&Case<'_>) -> bool;
 /// The table's rows in the table's order, which since request 5/13 is the order
 /// of the answers: "Demand 2's order is now that of the table's rows, not of
 /// the numbers."
-const CONDITIONS: [(u64, Condition); 38] = [
+const CONDITIONS: [(u64, Condition); 40] = [
     // clock_back: now < last clock
     (4, |c| c.s.now < c.ledger.clock),
     // system_frozen: set (1–9)
-    (5, |c| c.ledger.system_frozen && !c.is(&[Freeze, Caps])),
+    (5, |c| {
+        c.ledger.system_frozen && !c.is(&[Freeze, Caps, Close])
+    }),
     // invalid_signature: bit 0 clear (all but 9)
     (6, |c| !c.is(&[Sweep]) && !c.s.has(SIGNATURE)),
-    // not_admin: bit 1 clear (1, 10, 11)
-    (7, |c| c.is(&[Grant, Freeze, Caps]) && !c.s.has(ADMIN)),
+    // not_admin: bit 1 clear (1, 10, 11; 12)
+    (7, |c| {
+        c.is(&[Grant, Freeze, Caps, Close]) && !c.s.has(ADMIN)
+    }),
     // envelope_not_yet_valid: issued > now + 30,000 (not 9)
     (8, |c| !c.is(&[Sweep]) && after(c.s.issued, c.s.now, 30_000)),
     // envelope_expired: now > expires (not 9)
@@ -61,10 +65,19 @@ const CONDITIONS: [(u64, Condition); 38] = [
         (c.is(&[Grant, Transfer, Open, Claim]) && c.s.target == 0)
             || (c.is(&[Transfer, Open, Claim]) && c.s.target == c.s.signer)
     }),
-    // wallet_not_found: no wallet for target (10 with target not 0; 11)
+    // wallet_not_found: no wallet for target (10 with target not 0; 11; 12)
     (16, |c| {
-        ((c.is(&[Freeze]) && c.s.target != 0) || c.is(&[Caps])) && c.target.is_missing()
+        ((c.is(&[Freeze]) && c.s.target != 0) || c.is(&[Caps, Close])) && c.target.is_missing()
     }),
+    // wallet_closed, of request 6/13: "given when a wallet named by the record (signer in 2, 3, 6;
+    // target in 1, 2, 3, 6, 10, 11, 12) is closed; it stands right after 16"
+    (43, |c| {
+        (c.is(&[Transfer, Open, Claim]) && c.sender.is_closed())
+            || (c.is(&[Grant, Transfer, Open, Claim, Freeze, Caps, Close]) && c.target.is_closed())
+    }),
+    // wallet_not_empty, of request 6/13: "follows it, for operation 12 on a wallet with balance,
+    // locked credits or an open escrow to it"
+    (42, |c| c.is(&[Close]) && not_empty(c)),
     // insufficient_balance: balance < amount (2, 3)
     (17, |c| c.pays(|sender| sender.balance < c.s.amount)),
     // per_tx_cap_exceeded: amount > cap (2, 3)
@@ -185,6 +198,16 @@ fn amount_out_of_range(c: &Case<'_>) -> bool {
         Caps => c.s.amount > MOST_AMOUNT || c.s.link > MOST_AMOUNT,
         _ => false,
     }
+}
+
+/// "a wallet with balance, locked credits or an open escrow to it". An escrow
+/// whose state is 1 is open, stale or not.
+fn not_empty(c: &Case<'_>) -> bool {
+    let mut escrows = c.ledger.escrows.rows.iter();
+    let mut open_to = |id| escrows.any(|e| e.state == EscrowState::Open && e.to == id);
+    c.target.live_or_closed().map_or(false, |wallet| {
+        wallet.balance != 0 || wallet.locked != 0 || open_to(wallet.id)
+    })
 }
 
 /// "Counted rows for 19: the signer's journal rows of operation 2 with settled

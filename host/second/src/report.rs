@@ -6,11 +6,12 @@ use crate::rows::EscrowState;
 use crate::status::ANSWERS;
 use crate::tables::{decode, fresh, lengths_right, Tables};
 
-/// "one row for every operation and a row 0": operations 1 to 11.
-pub const GRID_ROWS: usize = 12;
+/// "one row for every operation and a row 0": operations 1 to 11, and 12 since
+/// request 6/13. "Later operations and answers widen the grid."
+pub const GRID_ROWS: usize = 13;
 
-/// "one column per answer": answers 0 to 40, and 41 since request 5/13.
-/// "Later operations and answers widen the grid."
+/// "one column per answer": answers 0 to 40, 41 since request 5/13, 42 and 43
+/// since request 6/13.
 pub const GRID_COLUMNS: usize = ANSWERS;
 
 /// "a grid of counts by operation and answer": `grid[operation][answer]`.

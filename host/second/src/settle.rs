@@ -36,6 +36,7 @@ pub fn settle(ledger: &mut Ledger, operation: Operation, s: &Submission) -> u64 
         Operation::Sweep => sweep(ledger, s.amount, s.now),
         Operation::Freeze => freeze(ledger, s),
         Operation::Caps => caps(ledger, s),
+        Operation::Close => close_wallet(ledger, s),
     };
     // "Last clock becomes now".
     ledger.clock = s.now;
@@ -212,6 +213,13 @@ fn caps(ledger: &mut Ledger, s: &Submission) -> u64 {
         wallet.per_tx_cap = s.amount;
         wallet.daily_cap = s.link;
     });
+    0
+}
+
+/// Of request 6/13: "closes a departed crew's wallet ... The frozen word becomes
+/// 2". Nothing else of the row changes, and it stays written.
+fn close_wallet(ledger: &mut Ledger, s: &Submission) -> u64 {
+    change(ledger, s.target, |wallet| wallet.frozen = Frozen::Closed);
     0
 }
 

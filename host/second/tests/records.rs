@@ -10,7 +10,7 @@ fn none() -> (u64, Submission) {
 
 /// One well-formed submission of each operation, every used part nonzero.
 fn one_of_each() -> Vec<Submission> {
-    (1..=11)
+    (1..=12)
         .map(|op| {
             let s = if op == 9 {
                 sweep(5, 6)
@@ -32,7 +32,7 @@ fn one_of_each() -> Vec<Submission> {
                 s.hash = [1, 2 << 56, 3, u64::MAX];
             }
             s.flags |= match op {
-                1 | 4 | 5 | 11 => ADMIN,
+                1 | 4 | 5 | 11 | 12 => ADMIN,
                 6 => BIT2,
                 8 => REASON,
                 10 => ADMIN | BIT2,
@@ -81,7 +81,7 @@ fn the_bytes_stand_in_order() {
 fn whatever_an_operation_does_not_use_is_zero() {
     // By operation: flag bits, then signer, nonce, issued with expires,
     // target, amount, until, link, hash.
-    let uses: [(u8, &str); 11] = [
+    let uses: [(u8, &str); 12] = [
         (0b0011, "sniTA"),
         (0b0001, "sniTA"),
         (0b0001, "sniTAU"),
@@ -93,6 +93,8 @@ fn whatever_an_operation_does_not_use_is_zero() {
         (0b0000, "A"),
         (0b0111, "sniT"),
         (0b0011, "sniTAL"),
+        // Since request 6/13.
+        (0b0011, "sniT"),
     ];
     for (op, (bits, parts)) in (1..).zip(uses) {
         let plain = Submission {
@@ -163,7 +165,7 @@ fn malformed_fields() {
     assert!(well_formed(&base));
     let wrong: [fn(&mut Submission); 8] = [
         |s| s.op = 0,
-        |s| s.op = 12,
+        |s| s.op = 13,
         |s| s.op = 255,
         |s| s.signer = 0,
         |s| s.now = TIME + 1,
@@ -214,7 +216,7 @@ fn malformed_marks_and_lengths() {
 fn random_bytes_agree_with_the_writer() {
     let mut dice = Dice(1);
     for _ in 0..200_000 {
-        let mut raw = bytes(&one_of_each()[dice.below(11) as usize]);
+        let mut raw = bytes(&one_of_each()[dice.below(12) as usize]);
         for _ in 0..=dice.below(2) {
             let at = dice.below(108) as usize;
             raw[at] = dice.pick(&[0, 1, 2, 4, 8, dice.0 & 255]) as u8;

@@ -139,8 +139,8 @@ fn the_first_entry_that_disagrees_is_reported_with_both_answers() {
 #[test]
 fn a_number_that_is_no_answer_disagrees() {
     let (mut recording, worlds) = recorded(&story());
-    // 41 is one since request 5/13
-    for number in [42, 128, 255] {
+    // 41 is one since request 5/13, 42 and 43 since request 6/13
+    for number in [44, 128, 255] {
         recording[2 * ENTRY_BYTES + 108] = number;
         let found = Found::Disagrees {
             entry: 3,

@@ -144,8 +144,8 @@ fn grid_of_the_story() -> Grid {
 
 #[test]
 fn a_report_over_nothing_is_all_zeros() {
-    // 41 columns before request 5/13
-    assert_eq!((GRID_ROWS, GRID_COLUMNS), (12, 42));
+    // 41 columns before request 5/13; 12 rows and 42 columns before request 6/13
+    assert_eq!((GRID_ROWS, GRID_COLUMNS), (13, 44));
     let report = Report::default();
     assert_eq!(report.grid, grid(&[]));
     assert_eq!(five(&report), [0; 5]);
@@ -238,7 +238,7 @@ fn row_0_is_for_operation_bytes_that_are_no_operation() {
         // no mark, so that every byte is malformed
         record[0] ^= 1;
         let report = over(&[entry(&record, 0, 0).to_vec()]);
-        let row = if (1..=11).contains(&byte) { byte } else { 0 };
+        let row = if (1..=12).contains(&byte) { byte } else { 0 };
         assert_eq!(report.grid, grid(&[(usize::from(row), 3, 1)]), "{}", byte);
         assert_eq!(five(&report), [0; 5]);
     }
@@ -253,7 +253,7 @@ fn a_malformed_record_is_counted_by_its_operation_byte() {
         let report = over(&[entry(&record, 3, 0).to_vec()]);
         assert_eq!(report.grid, grid(&[(2, 3, 1)]));
     }
-    for byte in [0, 12, 13, 128, 255] {
+    for byte in [0, 13, 14, 128, 255] {
         let mut record = bytes(&transfer(NOW, 7, 1, 8, 5));
         record[2] = byte;
         let report = over(&[entry(&record, 3, 0).to_vec()]);
@@ -264,7 +264,7 @@ fn a_malformed_record_is_counted_by_its_operation_byte() {
 #[test]
 fn the_recorded_answers_are_not_looked_at() {
     let right = over(&[recording(&story())]);
-    for (number, word) in [(1, 0), (3, 0), (40, 1), (41, 7), (42, 7), (255, u64::MAX)] {
+    for (number, word) in [(1, 0), (3, 0), (40, 1), (43, 7), (44, 7), (255, u64::MAX)] {
         let other: Vec<u8> = story()
             .iter()
             .flat_map(|submission| entry(&bytes(submission), number, word))
@@ -687,8 +687,8 @@ fn a_full_figure_that_does_not_rise_stops_nothing() {
     left.grid[9][0] = 1;
     assert_eq!(report, left);
     // "never wrap": the cells together may pass 2^64 − 1
-    // 12 rows of 42 cells, less three
-    assert_eq!(sum(&report), 501 * u128::from(u64::MAX) + 3);
+    // 13 rows of 44 cells, less three
+    assert_eq!(sum(&report), 569 * u128::from(u64::MAX) + 3);
 }
 
 #[test]
@@ -816,7 +816,7 @@ fn random_recordings_add_up() {
                 record[2] = dice.below(20) as u8;
             }
             let (number, _) = submit(&mut world.tables(), &record);
-            let row = if record[2] <= 11 { record[2] } else { 0 };
+            let row = if record[2] <= 12 { record[2] } else { 0 };
             grid[usize::from(row)][number as usize] += 1;
             entries.extend(entry(&record, dice.word() as u8, dice.word()));
             read += 1;

@@ -84,6 +84,18 @@ impl World {
         (row[1], row[2])
     }
 
+    /// Sets the frozen word of a wallet, as in tables that are lent so.
+    #[track_caller]
+    pub fn set_frozen(&mut self, id: u64, word: u64) {
+        let written = self.header[4] as usize;
+        let mut rows = self.wallets.chunks_mut(6).take(written);
+        rows.find(|row| row[0] == id).expect("a wallet")[3] = word;
+    }
+
+    pub fn frozen(&self, id: u64) -> u64 {
+        self.wallet_row(id).expect("a wallet")[3]
+    }
+
     pub fn escrow(&self, number: usize) -> &[u64] {
         &self.escrows[(number - 1) * 8..number * 8]
     }
@@ -195,6 +207,15 @@ pub fn caps(now: u64, nonce: u64, target: u64, per_tx: u64, daily: u64) -> Submi
         amount: per_tx,
         link: daily,
         ..signed(11, now, 1, nonce)
+    }
+}
+
+/// Operation 12, of request 6/13.
+pub fn close_wallet(now: u64, nonce: u64, target: u64) -> Submission {
+    Submission {
+        flags: SIGNED | ADMIN,
+        target,
+        ..signed(12, now, 1, nonce)
     }
 }
 
