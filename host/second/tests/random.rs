@@ -15,7 +15,7 @@ fn random_submission(dice: &mut Dice, w: &World, now: u64) -> Submission {
     let span = dice.pick(&[0, 1, 300_000, 400_000, 3_000_000, 604_800_001]);
     let escrow = dice.below(w.header[5] + 2);
     let receipt = dice.below(w.header[6] + 2);
-    let mut s = match dice.below(18) {
+    let mut s = match dice.below(19) {
         0 | 1 => grant(now, nonce, target, amount),
         2 => transfer(now, signer, nonce, target, amount),
         3..=5 => open(now, signer, nonce, target, amount, now + span),
@@ -26,7 +26,8 @@ fn random_submission(dice: &mut Dice, w: &World, now: u64) -> Submission {
         11..=14 => claim(now, signer, nonce, target, now + span, escrow),
         15 => return sweep(now, dice.below(6)),
         16 => freeze(now, nonce, target, dice.below(8) == 0),
-        _ => caps(now, nonce, target, amount * 1_000, amount * 9_000),
+        17 => caps(now, nonce, target, amount * 1_000, amount * 9_000),
+        _ => close_wallet(now, nonce, target),
     };
     if s.op == 6 && (1..=w.header[5]).contains(&escrow) && dice.below(4) != 0 {
         s.target = w.escrow(escrow as usize)[0];
@@ -99,6 +100,24 @@ impl Sums {
     }
 }
 
+/// "a wallet named by the record (signer in 2, 3, 6; target in 1, 2, 3, 6, 10, 11, 12) is closed".
+fn names_a_closed_wallet(w: &World, s: &Submission) -> bool {
+    let closed = |id| w.wallet_row(id).map_or(false, |row| row[3] == 2);
+    (matches!(s.op, 2 | 3 | 6) && closed(s.signer))
+        || (matches!(s.op, 1..=3 | 6 | 10..=12) && closed(s.target))
+}
+
+/// On a ledger that began afresh a closed wallet has no credits, and none can come to it.
+fn closed_are_empty(w: &World) -> bool {
+    let wallets = w.wallets.chunks(6).take(w.header[4] as usize);
+    let escrows = w.escrows.chunks(8).take(w.header[5] as usize);
+    let open: Vec<_> = escrows.filter(|escrow| escrow[4] == 1).collect();
+    wallets.filter(|wallet| wallet[3] == 2).all(|wallet| {
+        let named = |escrow: &&[u64]| escrow[..2].contains(&wallet[0]);
+        wallet[1..3] == [0, 0] && !open.iter().any(named)
+    })
+}
+
 fn states(w: &World) -> Vec<u64> {
     let rows = w.escrows.chunks(8).take(w.header[5] as usize);
     rows.map(|row| row[4]).collect()
@@ -122,12 +141,26 @@ fn one_run(seed: u64, answers: &mut BTreeSet<u64>) {
             assert_eq!(receipt[5], 1);
             assert_eq!(receipt[3] < s.now, answer == 41);
         }
+        if matches!(answer, 0 | 17..=43) {
+            assert_eq!(answer == 43, names_a_closed_wallet(&before, &s));
+        }
+        if s.op == 12 && matches!(answer, 0 | 42) {
+            let (balance, locked) = before.has(s.target);
+            let escrows = before.escrows.chunks(8).take(before.header[5] as usize);
+            let open_to = escrows.filter(|e| e[4] == 1 && e[1] == s.target).count();
+            assert_eq!((balance, locked, open_to) != (0, 0, 0), answer == 42);
+        }
         if answer != 0 {
             assert_eq!(word, 0);
             assert!(w == before);
             continue;
         }
         assert!(w.sound());
+        assert!(closed_are_empty(&w));
+        for row in before.wallets.chunks(6).take(before.header[4] as usize) {
+            let closed = row[3] == 2 || (s.op == 12 && s.target == row[0]);
+            assert_eq!(w.frozen(row[0]) == 2, closed);
+        }
         assert_eq!(w.header[2], s.now);
         if s.op == 9 {
             assert_eq!(word, s.amount.min(due(&before, s.now)));
@@ -172,7 +205,7 @@ fn random_runs() {
         assert!(answers.contains(&number), "{} in {:?}", number, answers);
     }
     for number in [
-        19, 22, 23, 28, 29, 30, 31, 32, 33, 34, 35, 37, 38, 39, 40, 41,
+        19, 22, 23, 28, 29, 30, 31, 32, 33, 34, 35, 37, 38, 39, 40, 41, 42, 43,
     ] {
         assert!(answers.contains(&number), "{} in {:?}", number, answers);
     }

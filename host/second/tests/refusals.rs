@@ -1,4 +1,4 @@
-//! Each number from 1 to 41 is reached, with word 0 and unchanged tables.
+//! Each number from 1 to 43 is reached, with word 0 and unchanged tables.
 
 mod common;
 use common::*;
@@ -68,6 +68,7 @@ fn clock_freeze_signature_admin() {
         7,
     );
     w.refuses(signed(11, NOW, 1, 9), 7);
+    w.refuses(signed(12, NOW, 1, 9), 7);
     w.settles(freeze(NOW, 9, 0, true));
     assert_eq!(w.header[1], 1);
     w.refuses(unsigned(grant(NOW, 10, 7, 5)), 5);
@@ -124,6 +125,20 @@ fn amounts_and_parties() {
     w.refuses(transfer(NOW, 7, 9, 0, 5), 14);
     w.refuses(open(NOW, 7, 9, 7, 5, NOW), 14);
     w.settles(sweep(NOW, 1_000));
+}
+
+/// 42 and 43 have tests of their own, and so have their places.
+#[test]
+fn closed_wallets() {
+    let mut w = world();
+    w.refuses(close_wallet(NOW, 9, 99), 16);
+    w.refuses(close_wallet(NOW, 9, 7), 42);
+    w.refuses(close_wallet(NOW, 9, 8), 42);
+    w.settles(close(5, NOW, 7, 9, 1));
+    w.settles(close_wallet(NOW, 9, 8));
+    w.refuses(transfer(NOW, 7, 10, 8, 50_001), 43);
+    w.refuses(transfer(NOW, 8, 10, 7, 5), 43);
+    w.refuses(close_wallet(NOW, 10, 8), 43);
 }
 
 #[test]
@@ -241,6 +256,7 @@ fn limits_and_full_tables() {
     w.refuses(transfer(NOW, 7, 6, 8, 1), 40);
     w.refuses(freeze(NOW, 1_001, 0, true), 40);
     w.refuses(caps(NOW, 1_001, 7, 1, 1), 40);
+    w.refuses(close_wallet(NOW, 1_001, 7), 42);
     w.refuses(close(5, NOW, 7, 6, 1), 40);
     assert_eq!(w.settles(sweep(NOW + 2, 9)), 1);
 }

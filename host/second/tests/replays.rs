@@ -224,12 +224,13 @@ fn random_recordings_agree_and_bytes_by_chance_never_panic() {
             let now = NOW + 50_000 * nonce;
             let (signer, target) = (1 + dice.below(4), dice.below(5));
             let until = now + 400_000;
-            let record = bytes(&match dice.below(6) {
+            let record = bytes(&match dice.below(7) {
                 0 => grant(now, nonce, target, 1_000),
                 1 => transfer(now, signer, nonce, target, 10),
                 2 => open(now, signer, nonce, target, 20, until),
                 3 => claim(now, signer, nonce, target, until, dice.below(3)),
                 4 => close(7, now, signer, nonce, dice.below(4)),
+                5 => close_wallet(now, nonce, target),
                 _ => sweep(now, dice.below(4)),
             });
             let (number, word) = submit(&mut world.tables(), &record);

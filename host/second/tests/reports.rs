@@ -802,13 +802,14 @@ fn random_recordings_add_up() {
             let now = NOW + 50_000 * nonce;
             let (signer, target) = (1 + dice.below(4), dice.below(5));
             let until = now + 300_000 + 50_000 * dice.below(6);
-            let submission = match dice.below(9) {
+            let submission = match dice.below(10) {
                 0 | 1 => grant(now, nonce, target, 1_000),
                 2 => transfer(now, signer, nonce, target, 10),
                 3 | 4 => open(now, signer, nonce, target, 1 + dice.below(99), until),
                 5 => claim(now, signer, nonce, target, until, dice.below(4)),
                 6 => auto(claim(now, signer, nonce, target, until, dice.below(4))),
                 7 => close(pick(&mut dice), now, signer, nonce, 1 + dice.below(4)),
+                8 => close_wallet(now, nonce, target),
                 _ => sweep(now, dice.below(4)),
             };
             let mut record = bytes(&submission);
@@ -839,6 +840,8 @@ fn random_recordings_add_up() {
         assert_eq!(sum(&report), read);
     }
     assert!(figures.iter().all(|&figure| figure > 0), "{:?}", figures);
+    assert!(grid[12][0] > 0 && grid[12][42] > 0);
+    assert!(grid.iter().any(|row| row[43] > 0));
 }
 
 /// Release, refund, accept or dispute.
