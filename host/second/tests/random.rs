@@ -144,6 +144,7 @@ fn one_run(seed: u64, answers: &mut BTreeSet<u64>) {
         if matches!(answer, 0 | 17..=43) {
             assert_eq!(answer == 43, names_a_closed_wallet(&before, &s));
         }
+        assert!(answer != 42 || s.op == 12);
         if s.op == 12 && matches!(answer, 0 | 42) {
             let (balance, locked) = before.has(s.target);
             let escrows = before.escrows.chunks(8).take(before.header[5] as usize);
