@@ -62,28 +62,14 @@ fn closings(op: u8) -> Vec<Closed> {
     }
 }
 
-/// One more thing that is wrong: its answer, the operations it is a fault in, whether it takes
-/// away the signer's and the target's wallet (so that those cannot be closed), and what it is.
-struct Fault {
-    answer: u64,
-    ops: &'static [u8],
-    takes: Option<Closed>,
-    make: fn(&mut World, &mut Submission),
-}
-
-const fn fault(
-    answer: u64,
-    ops: &'static [u8],
-    takes: Option<Closed>,
-    make: fn(&mut World, &mut Submission),
-) -> Fault {
-    Fault {
-        answer,
-        ops,
-        takes,
-        make,
-    }
-}
+/// One more thing that is wrong: its answer, the operations it is a fault in, which wallet it takes
+/// away so that it cannot be closed, and what it is.
+type Fault = (
+    u64,
+    &'static [u8],
+    Option<Closed>,
+    fn(&mut World, &mut Submission),
+);
 
 /// A table without an unwritten row.
 fn full(table: &mut Vec<u64>, rows: u64, words: usize) {
@@ -95,78 +81,78 @@ const PAYING: &[u8] = &[2, 3];
 
 /// What stands above 43 in the table, in the table's order.
 const ABOVE: &[Fault] = &[
-    fault(4, ALL, None, |w, _| w.header[2] = NOW + 1),
-    fault(5, &[1, 2, 3, 6], None, |w, _| w.header[1] = 1),
-    fault(6, ALL, None, |_, s| s.flags &= !SIGNED),
-    fault(7, &[1, 10, 11, 12], None, |_, s| s.flags &= !ADMIN),
-    fault(8, ALL, None, |_, s| {
+    (4, ALL, None, |w, _| w.header[2] = NOW + 1),
+    (5, &[1, 2, 3, 6], None, |w, _| w.header[1] = 1),
+    (6, ALL, None, |_, s| s.flags &= !SIGNED),
+    (7, &[1, 10, 11, 12], None, |_, s| s.flags &= !ADMIN),
+    (8, ALL, None, |_, s| {
         s.issued = NOW + 30_001;
         s.expires = s.issued;
         s.until += if s.op == 6 { 30_001 } else { 0 };
     }),
-    fault(9, ALL, None, |_, s| {
+    (9, ALL, None, |_, s| {
         s.issued = NOW - 1;
         s.expires = NOW - 1;
     }),
-    fault(10, ALL, None, |_, s| s.expires = s.issued + 3_600_001),
+    (10, ALL, None, |_, s| s.expires = s.issued + 3_600_001),
     // 9 has used no nonce yet.
-    fault(11, ALL, None, |w, s| {
+    (11, ALL, None, |w, s| {
         s.nonce = 77;
         w.journal[..2].copy_from_slice(&[s.signer, 77]);
     }),
-    fault(12, &[1, 2, 3], None, |_, s| s.amount = 0),
-    fault(12, &[11], None, |_, s| s.link = MOST + 1),
-    fault(13, PAYING, Some(Closed::Signer), |_, s| s.signer = 70),
-    fault(14, PAYING, Some(Closed::Signer), |w, s| {
+    (12, &[1, 2, 3], None, |_, s| s.amount = 0),
+    (12, &[11], None, |_, s| s.link = MOST + 1),
+    (13, PAYING, Some(Closed::Signer), |_, s| s.signer = 70),
+    (14, PAYING, Some(Closed::Signer), |w, s| {
         w.set_frozen(s.signer, 1)
     }),
-    fault(15, &[1], Some(Closed::Both), |_, s| s.target = 0),
-    fault(15, &[2, 3, 6], Some(Closed::Target), |_, s| s.target = 0),
-    fault(15, &[2, 3, 6], Some(Closed::Target), |_, s| {
+    (15, &[1], Some(Closed::Both), |_, s| s.target = 0),
+    (15, &[2, 3, 6], Some(Closed::Target), |_, s| s.target = 0),
+    (15, &[2, 3, 6], Some(Closed::Target), |_, s| {
         s.target = s.signer
     }),
-    fault(16, &[10, 11, 12], Some(Closed::Both), |_, s| s.target = 70),
-    fault(16, &[11, 12], Some(Closed::Both), |_, s| s.target = 0),
+    (16, &[10, 11, 12], Some(Closed::Both), |_, s| s.target = 70),
+    (16, &[11, 12], Some(Closed::Both), |_, s| s.target = 0),
 ];
 
 /// What stands below 43, but for 42.
 const BELOW: &[Fault] = &[
-    fault(17, PAYING, None, |_, s| s.amount = 49_001),
-    fault(18, PAYING, None, |w, _| w.wallets[4] = 4),
-    fault(19, PAYING, None, |w, _| w.wallets[5] = 4),
-    fault(20, &[3], None, |_, s| s.until = NOW),
-    fault(21, &[3], None, |_, s| s.until = NOW + 604_800_001),
-    fault(22, &[6], Some(Closed::Signer), |_, s| s.signer = 70),
-    fault(23, &[6], Some(Closed::Target), |_, s| s.target = 70),
-    fault(24, &[6], None, |_, s| s.until = WINDOW - 1),
-    fault(25, &[6], None, |_, s| s.until = NOW + 604_800_001),
-    fault(26, &[6], None, |_, s| {
+    (17, PAYING, None, |_, s| s.amount = 49_001),
+    (18, PAYING, None, |w, _| w.wallets[4] = 4),
+    (19, PAYING, None, |w, _| w.wallets[5] = 4),
+    (20, &[3], None, |_, s| s.until = NOW),
+    (21, &[3], None, |_, s| s.until = NOW + 604_800_001),
+    (22, &[6], Some(Closed::Signer), |_, s| s.signer = 70),
+    (23, &[6], Some(Closed::Target), |_, s| s.target = 70),
+    (24, &[6], None, |_, s| s.until = WINDOW - 1),
+    (25, &[6], None, |_, s| s.until = NOW + 604_800_001),
+    (26, &[6], None, |_, s| {
         s.issued = NOW - 300_001;
         s.until = NOW - 1;
     }),
-    fault(27, &[6], None, |_, s| s.link = 2),
-    fault(29, &[6], None, |w, _| w.escrows[3] = NOW - 1),
-    fault(30, &[6], None, |w, _| w.escrows[1] = 8),
-    fault(31, &[6], None, |w, _| w.escrows[3] = WINDOW - 1),
-    fault(36, &[1], None, |w, _| {
+    (27, &[6], None, |_, s| s.link = 2),
+    (29, &[6], None, |w, _| w.escrows[3] = NOW - 1),
+    (30, &[6], None, |w, _| w.escrows[1] = 8),
+    (31, &[6], None, |w, _| w.escrows[3] = WINDOW - 1),
+    (36, &[1], None, |w, _| {
         w.wallets[1] += MOST_GRANTED - 50_000;
         w.header[3] = MOST_GRANTED;
     }),
-    fault(37, &[1], Some(Closed::Both), |w, s| {
+    (37, &[1], Some(Closed::Both), |w, s| {
         s.target = 70;
         full(&mut w.wallets, 3, 6);
     }),
-    fault(37, PAYING, Some(Closed::Target), |w, s| {
+    (37, PAYING, Some(Closed::Target), |w, s| {
         s.target = 70;
         full(&mut w.wallets, 3, 6);
     }),
-    fault(38, &[3], None, |w, _| full(&mut w.escrows, 1, 8)),
-    fault(39, &[6], None, |w, _| {
+    (38, &[3], None, |w, _| full(&mut w.escrows, 1, 8)),
+    (39, &[6], None, |w, _| {
         // a first receipt, and no room for a second
         w.settles(claim(NOW, 9, 98, 7, WINDOW, 0));
         full(&mut w.receipts, 1, 14);
     }),
-    fault(40, ALL, None, |w, _| {
+    (40, ALL, None, |w, _| {
         let rows = w.header[7];
         full(&mut w.journal, rows, 8);
     }),
@@ -203,21 +189,22 @@ fn without_a_fault_they_settle_and_closed_alone_is_43() {
 #[track_caller]
 fn with_closings(fault: &Fault, answer: u64) -> usize {
     let mut tried = 0;
-    for &op in fault.ops {
+    let &(alone, ops, takes, make) = fault;
+    for &op in ops {
         let (mut w, mut s) = (world(), record(op));
-        (fault.make)(&mut w, &mut s);
+        make(&mut w, &mut s);
         assert!(w.sound());
-        w.refuses(s, fault.answer);
+        w.refuses(s, alone);
         for closed in closings(op) {
-            if fault.takes == Some(Closed::Both) || fault.takes == Some(closed) {
+            if takes == Some(Closed::Both) || takes == Some(closed) {
                 continue;
             }
-            if fault.takes.is_some() && closed == Closed::Both {
+            if takes.is_some() && closed == Closed::Both {
                 continue;
             }
             let (mut w, mut s) = (world(), record(op));
-            (fault.make)(&mut w, &mut s);
-            let named = if fault.takes.is_some() { s } else { record(op) };
+            make(&mut w, &mut s);
+            let named = if takes.is_some() { s } else { record(op) };
             set(&mut w, &named, closed);
             assert!(w.sound());
             w.refuses(s, answer);
@@ -230,8 +217,8 @@ fn with_closings(fault: &Fault, answer: u64) -> usize {
 #[test]
 fn what_stands_above_43_comes_first() {
     for fault in ABOVE {
-        let tried = with_closings(fault, fault.answer);
-        assert_eq!(tried > 0, fault.takes != Some(Closed::Both));
+        let tried = with_closings(fault, fault.0);
+        assert_eq!(tried > 0, fault.2 != Some(Closed::Both));
     }
 }
 
@@ -239,13 +226,13 @@ fn what_stands_above_43_comes_first() {
 fn what_stands_below_43_comes_later() {
     for fault in BELOW {
         let tried = with_closings(fault, 43);
-        assert_eq!(tried > 0, fault.takes != Some(Closed::Both));
+        assert_eq!(tried > 0, fault.2 != Some(Closed::Both));
     }
 }
 
 #[test]
 fn above_42_below_42_and_42_itself() {
-    let of_12 = |fault: &&Fault| fault.ops.contains(&12);
+    let of_12 = |(_, ops, _, _): &&Fault| ops.contains(&12);
     for not_empty in NOT_EMPTY {
         let mut w = world();
         not_empty(&mut w);
@@ -253,20 +240,18 @@ fn above_42_below_42_and_42_itself() {
         // 43 is the higher number and the earlier row.
         w.set_frozen(8, 2);
         w.refuses(record(12), 43);
-        for fault in ABOVE.iter().filter(of_12) {
+        let below = BELOW
+            .iter()
+            .map(|&(_, ops, takes, make)| (42, ops, takes, make));
+        let all: Vec<Fault> = ABOVE.iter().copied().chain(below).collect();
+        for (answer, _, _, make) in all.iter().filter(of_12) {
             let (mut w, mut s) = (world(), record(12));
             not_empty(&mut w);
-            (fault.make)(&mut w, &mut s);
-            w.refuses(s, fault.answer);
-        }
-        for fault in BELOW.iter().filter(of_12) {
-            let (mut w, mut s) = (world(), record(12));
-            not_empty(&mut w);
-            (fault.make)(&mut w, &mut s);
-            w.refuses(s, 42);
+            make(&mut w, &mut s);
+            w.refuses(s, *answer);
         }
     }
-    let below: Vec<u64> = BELOW.iter().filter(of_12).map(|f| f.answer).collect();
+    let below: Vec<u64> = BELOW.iter().filter(of_12).map(|fault| fault.0).collect();
     assert_eq!(below, [40]);
 }
 
@@ -285,23 +270,16 @@ fn closing(wrong: u32) -> (World, Submission) {
         w.set_frozen(8, 2);
     }
     w.header[1] = u64::from(wrong >> ROWS.len() & 1);
-    for fault in ABOVE.iter().chain(BELOW) {
-        // Of the two of 16 the one with another id; each envelope's fault changes what is left.
-        let twice = fault.answer == 16 && fault.ops.len() == 2;
-        if fault.ops.contains(&12) && is(fault.answer) && !twice {
-            envelope(fault, &mut w, &mut s);
+    let faults = ABOVE.iter().chain(BELOW);
+    for &(answer, _, _, make) in faults.filter(|fault| fault.1.contains(&12) && is(fault.0)) {
+        match answer {
+            // 8 and 9 never hold together; 10 may with each of them.
+            9 if s.issued > NOW => {}
+            10 if s.expires < NOW => s.issued = s.expires - 3_600_001,
+            _ => make(&mut w, &mut s),
         }
     }
     (w, s)
-}
-
-/// 8 and 9 never hold together; 10 may with each of them.
-fn envelope(fault: &Fault, w: &mut World, s: &mut Submission) {
-    match fault.answer {
-        9 if s.issued > NOW => {}
-        10 if s.expires < NOW => s.issued = s.expires - 3_600_001,
-        _ => (fault.make)(w, s),
-    }
 }
 
 #[test]

@@ -193,6 +193,20 @@ fn malformed_fields() {
     assert!(well_formed(&sweep(TIME, u64::MAX)));
 }
 
+/// Whatever their parts, and also with none but a signer.
+#[test]
+fn no_other_byte_is_an_operation() {
+    let bare = Submission {
+        signer: 6,
+        ..Submission::default()
+    };
+    for op in (0..=255).filter(|op| !(1..=12).contains(op)) {
+        for s in one_of_each().into_iter().chain([bare, sweep(5, 6)]) {
+            assert!(!well_formed(&Submission { op, ..s }), "{}", op);
+        }
+    }
+}
+
 #[test]
 fn malformed_marks_and_lengths() {
     let good = bytes(&grant(5, 6, 7, 8));
