@@ -51,7 +51,7 @@ pub fn write(s: &Submission, out: &mut [u8], tally: &mut Tally) -> Result<u64, D
 
 /// Fields by chance, of which a part is well formed.
 pub fn fields(dice: &mut Dice) -> Submission {
-    let op = dice.below(13) as u8;
+    let op = dice.below(14) as u8;
     let time = |dice: &mut Dice| match dice.below(12) {
         0 => dice.edge(),
         1 => (1 << 48) - 1,
@@ -104,6 +104,7 @@ fn clear_unused(s: &mut Submission) {
         }
         10 => (0b0111, false, false, false, false),
         11 => (0b0011, true, false, true, false),
+        12 => (0b0011, false, false, false, false),
         _ => (0, true, true, true, true),
     };
     s.flags &= bits;

@@ -1,6 +1,8 @@
 //! Row lookups of both programs, on right tables and wrong ones.
 
-use milebeacon::{ffi, EscrowNumber, ReceiptNumber};
+use milebeacon::ffi::{self, Standing};
+use milebeacon::{lookup, EscrowNumber, ReceiptNumber};
+use second::FoundWallet;
 
 use crate::dice::Dice;
 use crate::tally::Tally;
@@ -19,7 +21,7 @@ fn escrow(header: &[u64], escrows: &[u64], number: u64) -> Result<(), Difference
     let second = second::escrow_row(header, escrows, number);
     let core = ffi::escrow_place(header, escrows, EscrowNumber(number));
     same("escrow's place", core, place(escrows, second))?;
-    let row = milebeacon::lookup::escrow_row(header, escrows, EscrowNumber(number));
+    let row = lookup::escrow_row(header, escrows, EscrowNumber(number));
     same(
         "escrow's row",
         row.map_or(&[][..], |row| &row.words()[..]),
@@ -33,13 +35,33 @@ fn receipt(header: &[u64], receipts: &[u64], number: u64) -> Result<(), Differen
     let second = second::receipt_row(header, receipts, number);
     let core = ffi::receipt_place(header, receipts, ReceiptNumber(number));
     same("receipt's place", core, place(receipts, second))?;
-    let row = milebeacon::lookup::receipt_row(header, receipts, ReceiptNumber(number));
+    let row = lookup::receipt_row(header, receipts, ReceiptNumber(number));
     same(
         "receipt's row",
         row.map_or(&[][..], |row| &row.words()[..]),
         second,
     )
     .map(drop)
+}
+
+/// What the second program tells of a wallet, as the core says it.
+fn standing(found: FoundWallet<u64>) -> Standing {
+    let (state, number) = match found {
+        FoundWallet::Missing => (ffi::WALLET_MISSING, 0),
+        FoundWallet::Live(number) => (ffi::WALLET_LIVE, number),
+        FoundWallet::Closed(number) => (ffi::WALLET_CLOSED, number),
+    };
+    Standing { state, number }
+}
+
+/// One wallet: whether it is missing, live or closed, and that very row, of six words.
+fn wallet(header: &[u64], wallets: &[u64], id: u64) -> Result<(), Difference> {
+    let core = ffi::wallet_row(header, wallets, id);
+    let second = second::wallet_row(header, wallets, id);
+    let found = same("wallet's state and row", core, standing(second))?;
+    let row = lookup::wallet_row(header, wallets, id).row();
+    let place = row.map_or(0, |row| place(wallets, row.words()) / 6 + 1);
+    same("wallet's place", place as u64, found.number).map(drop)
 }
 
 /// Looks up numbers that are written, that are not, and that no table has; and all ids.
@@ -73,12 +95,7 @@ pub fn all(world: &World, dice: &mut Dice, tally: &mut Tally) -> Result<(), Diff
     }
     let written = wallets.chunks(6).map(|row| row[0]).take(40);
     for id in written.chain(numbers) {
-        let core = ffi::wallet_row(header, wallets, id);
-        same(
-            "wallet's row",
-            core.0,
-            second::wallet_row(header, wallets, id),
-        )?;
+        wallet(header, wallets, id)?;
         tally.other_calls += 1;
     }
     Ok(())

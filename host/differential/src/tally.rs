@@ -10,8 +10,9 @@ use crate::retries;
 use crate::window;
 
 /// The highest answer number.
-pub const LAST_ANSWER: usize = 41;
-const OPERATIONS: usize = 11;
+pub const LAST_ANSWER: usize = 43;
+/// The highest operation number.
+pub const OPERATIONS: usize = 12;
 const SWEEP: usize = 9;
 
 /// Counts by operation and answer. Row 0 is for records whose operation byte is none.
@@ -54,15 +55,17 @@ impl Default for Tally {
 /// The operations that an answer is given for, as the rules list them.
 fn operations_of(answer: usize) -> &'static [usize] {
     match answer {
-        0 | 4 => &[1, 2, 3, 4, 5, 6, 7, 8, 9, 10, 11],
-        1 | 2 | 3 => &[0, 1, 2, 3, 4, 5, 6, 7, 8, 9, 10, 11],
+        0 | 4 => &[1, 2, 3, 4, 5, 6, 7, 8, 9, 10, 11, 12],
+        1 | 2 | 3 => &[0, 1, 2, 3, 4, 5, 6, 7, 8, 9, 10, 11, 12],
         5 => &[1, 2, 3, 4, 5, 6, 7, 8, 9],
-        6 | 8 | 9 | 10 | 11 | 40 => &[1, 2, 3, 4, 5, 6, 7, 8, 10, 11],
-        7 => &[1, 10, 11],
+        6 | 8 | 9 | 10 | 11 | 40 => &[1, 2, 3, 4, 5, 6, 7, 8, 10, 11, 12],
+        7 => &[1, 10, 11, 12],
         12 => &[1, 2, 3, 9, 11],
         13 | 14 | 17 | 18 | 19 => &[2, 3],
         15 => &[1, 2, 3, 6],
-        16 => &[10, 11],
+        16 => &[10, 11, 12],
+        43 => &[1, 2, 3, 6, 10, 11, 12],
+        42 => &[12],
         20 | 21 | 38 => &[3],
         22 | 23 | 24 | 25 | 26 | 30 | 31 | 39 => &[6],
         27 | 29 => &[4, 5, 6],

@@ -4,6 +4,7 @@
 use milebeacon::{ffi, Entries, EscrowState, Ledger, ReceiptState};
 
 use crate::record::word;
+use crate::tally::OPERATIONS;
 use crate::twin::World;
 
 /// The five sums and the cell, in the order in which they are named.
@@ -32,7 +33,6 @@ pub const CELL: usize = 5;
 const MALFORMED: usize = 3;
 const ACCEPTANCE_CLOSED: usize = 41;
 const ACCEPT: usize = 7;
-const OPERATIONS: u8 = 11;
 const SWEEP: usize = 9;
 
 /// What one entry adds.
@@ -71,8 +71,8 @@ pub fn gains(tables: &World, recording: &[u8]) -> Option<Vec<Gain>> {
     let mut before = Seen::of(&world);
     let entries = Entries::new(recording).map(|entry| {
         let answer = ffi::submit(world.as_mut(), entry.record).number as usize;
-        let row = match entry.record[2] {
-            operation @ 1..=OPERATIONS => usize::from(operation),
+        let row = match usize::from(entry.record[2]) {
+            operation @ 1..=OPERATIONS => operation,
             _ => 0,
         };
         let mut ways = Vec::new();

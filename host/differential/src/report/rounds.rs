@@ -1,6 +1,7 @@
 //! The reports of one round of a run.
 
 use milebeacon::Sizes;
+use second::GRID_ROWS;
 
 use super::brought::{Brought, Full, Room};
 use super::gains::{Gain, FIGURES};
@@ -232,7 +233,8 @@ fn odd(history: &History, turn: u64, dice: &mut Dice) -> Month {
     match turn % 8 {
         0 | 1 | 4 | 5 => {
             let wrong = On::Length(dice.index(5), Length::WordMore);
-            let named = [dice.between(1, 6), dice.below(12), dice.below(NO_ANSWER)];
+            let row = dice.below(GRID_ROWS as u64);
+            let named = [dice.between(1, 6), row, dice.below(NO_ANSWER)];
             let ons = dice.pick(&[[on, wrong], [wrong, on]]);
             let parts = ons.map(|on| part(history, 5, Change::Nothing, on, dice));
             let brought = Brought {
