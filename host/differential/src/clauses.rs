@@ -20,9 +20,10 @@ pub const BREAKS: &[(&str, Change)] = &[
     ("system frozen 0 or 1", |w, dice| {
         put(&mut w.header, 1, dice.pick(&[2, u64::MAX]))
     }),
-    ("wallet frozen 0 or 1", |w, dice| {
+    ("wallet frozen 0 to 2", |w, dice| {
         let row = wallet(w, dice);
-        put_at(&mut w.wallets, 6, row, 3, dice.pick(&[2, 256, u64::MAX]))
+        let word = dice.pick(&[3, 3, 4, 256, 258, (1 << 32) + 2, u64::MAX]);
+        put_at(&mut w.wallets, 6, row, 3, word)
     }),
     ("auto-accept 0 or 1", |w, dice| {
         let row = receipt(w, dice);
@@ -61,6 +62,12 @@ pub const BREAKS: &[(&str, Change)] = &[
     }),
     ("wallet ids distinct", |w, dice| {
         idle_wallet(w, dice).map_or(false, |row| doubled(w, row))
+    }),
+    ("wallet ids distinct, closed ones too", |w, dice| {
+        let row = idle_wallet(w, dice).filter(|&row| doubled(w, row));
+        let next = row.map(|row| (row + 1) % w.header[4] as usize);
+        let (closed, other) = dice.pick(&[(row, next), (next, row)]);
+        put_at(&mut w.wallets, 6, closed, 3, 2) && put_at(&mut w.wallets, 6, other, 3, 0)
     }),
     ("escrow states 1 to 4", |w, dice| {
         let row = closed_escrow(w, dice);
@@ -169,6 +176,14 @@ pub const LIMITS: &[(&str, Change)] = &[
         put_at(&mut w.escrows, 8, row, 2, dice.pick(&[1, MOST_AMOUNT]))
     }),
     ("granted total 10^18", |w, _| granted(w, MOST_GRANTED)),
+    ("a closed wallet, whatever it has", |w, dice| {
+        let row = wallet(w, dice);
+        put_at(&mut w.wallets, 6, row, 3, 2)
+    }),
+    ("wallets that are all closed", |w, _| {
+        let written = w.header[4] as usize;
+        (0..written).all(|row| put_at(&mut w.wallets, 6, Some(row), 3, 2)) && written > 0
+    }),
     ("any caps", |w, dice| {
         let row = wallet(w, dice);
         put_at(&mut w.wallets, 6, row, dice.pick(&[4, 5]), dice.edge())

@@ -4,7 +4,8 @@ use milebeacon::{ffi, Sizes};
 
 use crate::dice::Dice;
 use crate::lookups;
-use crate::start::{noise, small_sizes, sound, Filled};
+use crate::parties::departure;
+use crate::start::{departed, noise, small_sizes, sound, Filled};
 use crate::step::Step;
 use crate::tally::Tally;
 use crate::twin::{Difference, Twin, World};
@@ -20,6 +21,8 @@ pub enum Begin {
     HalfFull,
     /// The same with every table full or one row short of it.
     NearlyFull,
+    /// One with many wallets closed.
+    Departed,
 }
 
 /// A history.
@@ -44,6 +47,24 @@ pub struct Found {
     pub difference: Difference,
 }
 
+/// So many steps, and in place of one in so many a crew that leaves.
+fn with_departures(
+    dice: &mut Dice,
+    length: usize,
+    once_in: u64,
+    step: impl Fn(&mut Dice) -> Step,
+) -> Vec<Step> {
+    let mut steps = Vec::with_capacity(length);
+    while steps.len() < length {
+        if dice.once_in(once_in) {
+            steps.extend(departure(dice));
+        } else {
+            steps.push(step(dice));
+        }
+    }
+    steps
+}
+
 impl History {
     /// A history of small tables by chance.
     pub fn roll(dice: &mut Dice, length: usize) -> History {
@@ -63,7 +84,7 @@ impl History {
     /// A history of tables of these sizes.
     pub fn of(begin: Begin, sizes: Sizes, dice: &mut Dice, length: usize) -> History {
         let wild = dice.pick(&[0, 0, 1, 1, 2, 4]);
-        let steps = (0..length).map(|_| Step::roll(dice, wild)).collect();
+        let steps = with_departures(dice, length, 30, |dice| Step::roll(dice, wild));
         History {
             begin,
             sizes,
@@ -74,7 +95,26 @@ impl History {
 
     /// The same of steps that mostly settle.
     pub fn settling(begin: Begin, sizes: Sizes, dice: &mut Dice, length: usize) -> History {
-        let steps = (0..length).map(|_| Step::settling(dice)).collect();
+        let steps = with_departures(dice, length, 60, Step::settling);
+        History {
+            begin,
+            sizes,
+            seed: dice.word(),
+            steps,
+        }
+    }
+
+    /// A history of small tables that is mostly about closed wallets.
+    pub fn departures(dice: &mut Dice, length: usize) -> History {
+        let begins = [
+            Begin::Departed,
+            Begin::Departed,
+            Begin::Departed,
+            Begin::Fresh,
+        ];
+        let begin = dice.pick(&begins);
+        let sizes = small_sizes(dice);
+        let steps = with_departures(dice, length, 12, Step::departed);
         History {
             begin,
             sizes,
@@ -92,6 +132,7 @@ impl History {
             Begin::Lent => Filled::roll(dice, self.sizes),
             Begin::HalfFull => Filled::half(self.sizes),
             Begin::NearlyFull => Filled::nearly_full(dice, self.sizes),
+            Begin::Departed => return departed(dice, self.sizes),
         };
         sound(dice, self.sizes, filled)
     }

@@ -1,7 +1,8 @@
 //! What each knob of a step means, given the tables as they stand.
 
-use milebeacon::Submission;
+use milebeacon::{Submission, WalletRow};
 
+use crate::parties::{CLOSED, CLOSED_SIGNER, FROZEN_SIGNER};
 use crate::step::{Step, DAY_MS, LAST_TIME, MOST_AMOUNT, MOST_GRANTED};
 use crate::view::View;
 
@@ -22,7 +23,7 @@ impl Step {
         let later = |moment: u64| if moment > LAST_TIME { clock } else { moment };
         // a hold of whoever signs if this step is a payment, unless its nonce brings another signer
         let after_hold = |span: u64| {
-            let payer = self.signer(view, view.any_wallet(self.pick()).unwrap_or(7));
+            let payer = self.signer(view, self.payer(view).unwrap_or(7));
             let hold = view.hold(payer, self.pick() / 3);
             hold.map_or(clock, |settled_at| later(settled_at + span).max(clock))
         };
@@ -71,11 +72,14 @@ impl Step {
     }
 
     pub(crate) fn signer(&self, view: &View<'_>, natural: u64) -> u64 {
+        let of = |kind: fn(&WalletRow<'_>) -> bool| view.wallet(kind, self.pick() / 7);
         match self.signer {
             1 | 2 => view.any_wallet(self.pick() / 7).unwrap_or(natural),
             3 => unknown(view, 1_000 + self.pick()),
             4 => 0,
             5 => u64::MAX,
+            CLOSED_SIGNER => of(|row| row.is_closed()).unwrap_or(natural),
+            FROZEN_SIGNER => of(|row| row.is_frozen()).unwrap_or(natural),
             _ => natural,
         }
     }
@@ -100,6 +104,12 @@ impl Step {
     }
 
     pub(crate) fn party(&self, view: &View<'_>, signer: u64, natural: Option<u64>) -> u64 {
+        if self.target == CLOSED {
+            let other = |row: &WalletRow<'_>| row.is_closed() && row.id() != signer;
+            if let Some(closed) = view.wallet(other, self.pick() / 5) {
+                return closed;
+            }
+        }
         match self.target {
             1 | 2 => unknown(view, 2 + self.pick() % 200),
             3 => 0,
@@ -133,7 +143,7 @@ impl Step {
             4 | 5 => any(false),
             6 => view.escrow_count().wrapping_add(1),
             7 => u64::MAX,
-            _ => 0,
+            _ => self.closed_link(view).unwrap_or(0),
         }
     }
 
@@ -241,7 +251,7 @@ impl Step {
     pub(crate) fn flag_bits(&self, view: &View<'_>, op: u8, target: u64) -> u8 {
         let odd = self.pick % 2 == 1;
         let natural = match op {
-            1 | 11 => 0b0011,
+            1 | 11 | 12 => 0b0011,
             6 if odd => 0b0101,
             8 => 0b1001,
             10 => {

@@ -71,6 +71,10 @@ impl Mix {
             Mix::Limits => limits(round, dice),
             Mix::Settling => settling(round, dice),
         };
+        // neither the first nor the last, which are recorded too
+        for _ in 0..2 {
+            histories.insert(1, History::departures(dice, 60));
+        }
         if round % 4 == 3 {
             histories.push(one_entry(dice));
         }

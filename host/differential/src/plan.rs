@@ -170,6 +170,7 @@ fn judged(
     tally: &mut Tally,
     outcome: Outcome,
 ) -> Result<(), Difference> {
+    lookups::all(&world, dice, tally)?;
     let number = asked(&mut Twin::new(world), dice, tally)?;
     let expected = if outcome == Outcome::Damaged { 2 } else { 3 };
     if number == expected {

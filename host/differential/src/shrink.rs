@@ -81,7 +81,7 @@ fn plainer_start(small: &mut Small<History>, test: Test<'_, History>) {
     let plainer: &[Begin] = match small.inner.begin {
         Begin::Fresh => &[],
         Begin::Lent => &[Begin::Fresh],
-        Begin::HalfFull | Begin::NearlyFull => &[Begin::Fresh, Begin::Lent],
+        Begin::HalfFull | Begin::NearlyFull | Begin::Departed => &[Begin::Fresh, Begin::Lent],
     };
     for &begin in plainer {
         let candidate = History {

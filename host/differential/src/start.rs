@@ -81,6 +81,25 @@ impl Filled {
         }
     }
 
+    /// Any part of each table and half of the time all of it, of the journal less often; and half of
+    /// the time so few escrows that some wallets have none.
+    pub fn departed(dice: &mut Dice, sizes: Sizes) -> Filled {
+        let mut part = |rows: usize, full_in: u64| match dice.below(full_in) {
+            0 => rows,
+            _ => dice.below(rows as u64 + 1) as usize,
+        };
+        let wallets = part(sizes.wallets, 2);
+        let (all, few) = (part(sizes.escrows, 2), part(sizes.escrows.min(3), 4));
+        let (receipts, journal) = (part(sizes.receipts, 3), part(sizes.journal, 3));
+        let escrows = match wallets {
+            0 | 1 => 0,
+            _ => dice.pick(&[all, few]),
+        };
+        Filled {
+            counts: [wallets, escrows, receipts, journal],
+        }
+    }
+
     /// All rows of each table, or all but a few.
     pub fn nearly_full(dice: &mut Dice, sizes: Sizes) -> Filled {
         let mut most = |rows: usize| rows.saturating_sub(dice.pick(&[0, 1, 1, 3]));
@@ -132,6 +151,25 @@ pub fn sound(dice: &mut Dice, sizes: Sizes, filled: Filled) -> World {
     world
 }
 
+/// A sound ledger with about half of its wallets closed, whatever they have. Of all wallets some have
+/// no balance, and half have caps that allow any payment.
+pub fn departed(dice: &mut Dice, sizes: Sizes) -> World {
+    let filled = Filled::departed(dice, sizes);
+    let mut world = sound(dice, sizes, filled);
+    let written = world.header[4] as usize;
+    for wallet in world.wallets.chunks_exact_mut(6).take(written) {
+        wallet[3] = dice.pick(&[0, 0, 0, 1, 2, 2, 2, 2]);
+        if dice.once_in(2) {
+            wallet[4..].fill(u64::MAX);
+        }
+        if dice.once_in(3) {
+            world.header[3] -= wallet[1];
+            wallet[1] = 0;
+        }
+    }
+    world
+}
+
 /// Distinct ids, none 0: in a row, spread out, or alike in all bits but the highest or a few in
 /// between, as a party might choose them to make a search by hash slow.
 fn ids(dice: &mut Dice, count: usize) -> Vec<u64> {
@@ -180,7 +218,8 @@ fn write_wallets(dice: &mut Dice, world: &mut World, ids: &[u64], locked: &[u64]
             balance
         };
         granted += balance;
-        let frozen = u64::from(dice.once_in(8));
+        // one in eight is frozen, and one in eight closed, whatever it has
+        let frozen = dice.pick(&[0, 0, 0, 0, 0, 0, 1, 2]);
         let caps = [cap(dice), cap(dice)];
         row.copy_from_slice(&[id, balance, locked, frozen, caps[0], caps[1]]);
     }
@@ -236,7 +275,7 @@ fn receipt(dice: &mut Dice, world: &World, escrows: usize, clock: u64) -> [u64; 
 }
 
 fn entry(dice: &mut Dice, ids: &[u64], clock: u64) -> [u64; 8] {
-    let operation = dice.pick(&[2, 2, 2, 2, 3, 3, 1, 7, 9, 11, 0, u64::MAX]);
+    let operation = dice.pick(&[2, 2, 2, 2, 3, 3, 1, 7, 9, 11, 12, 0, u64::MAX]);
     let amount = match operation {
         2 | 3 if dice.once_in(8) => dice.pick(&[900_000_000, MOST_AMOUNT]),
         2 | 3 => dice.pick(&[1, 50, 4_000]),

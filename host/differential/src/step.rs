@@ -8,6 +8,7 @@
 use milebeacon::Submission;
 
 use crate::dice::Dice;
+use crate::parties::OWN_SIGNER;
 use crate::record::{damaged, encode};
 use crate::twin::World;
 use crate::view::View;
@@ -24,7 +25,7 @@ pub const MOST_GRANTED: u64 = 1_000_000_000_000_000_000;
 /// One step.
 #[derive(Clone, Copy, Debug, Default, PartialEq, Eq)]
 pub struct Step {
-    /// 0 to 10: the operations 1 to 11. 11 submits the last record again, 12 does so with a new
+    /// 0 to 11: the operations 1 to 12. 12 submits the last record again, 13 does so with a new
     /// clock.
     pub op: u8,
     /// How far the clock moves, or to which row's moment.
@@ -59,7 +60,7 @@ impl Step {
     /// A step by chance. `wild` out of 16 knobs are not plain.
     pub fn roll(dice: &mut Dice, wild: u64) -> Step {
         let often = [0, 1, 1, 2, 2, 2, 2, 5, 5, 5, 5, 6, 6];
-        let seldom = [3, 4, 7, 8, 8, 9, 10, 11, 12];
+        let seldom = [3, 4, 7, 8, 8, 9, 10, 11, 12, 13];
         let op = if dice.once_in(3) {
             dice.pick(&seldom)
         } else {
@@ -68,6 +69,7 @@ impl Step {
         Step::of(op, dice, wild)
             .at_the_end_of_a_hold(dice)
             .at_the_end_of_a_window(dice, 3)
+            .at_a_closed_wallet(dice, 8)
     }
 
     /// A step by chance that settles more often than not: few knobs are not plain, and the clock
@@ -78,8 +80,8 @@ impl Step {
         ];
         let op = match dice.below(64) {
             0 => 9,
-            1 => 11,
-            2 => 12,
+            1 => 12,
+            2 => 13,
             _ => dice.pick(&ops),
         };
         let wild = dice.pick(&[0, 0, 0, 1]);
@@ -93,6 +95,25 @@ impl Step {
         }
         step.at_the_end_of_a_hold(dice)
             .at_the_end_of_a_window(dice, 5)
+            .at_a_closed_wallet(dice, 24)
+    }
+
+    /// A step by chance of which most name a closed wallet, and the clock mostly stands still.
+    pub fn departed(dice: &mut Dice) -> Step {
+        let ops = [0, 0, 1, 1, 2, 2, 2, 3, 4, 5, 5, 5, 6, 7, 8, 9, 10, 11, 11];
+        let wild = dice.pick(&[0, 0, 0, 1]);
+        let mut step = Step::of(dice.pick(&ops), dice, wild);
+        if !dice.once_in(6) {
+            step.tick = dice.below(3) as u8;
+        }
+        // Half of the sweeps close all that is due.
+        if step.op == 8 && dice.once_in(2) {
+            step.amount = 2;
+        }
+        match dice.below(4) {
+            0 => step,
+            _ => step.at_a_closed_wallet(dice, 1),
+        }
     }
 
     /// One payment in twelve comes, if its signer has a hold, when that counts for the last time or
@@ -150,9 +171,9 @@ impl Step {
 
     /// The bytes to submit. `last` is the record before it.
     pub fn record(&self, world: &World, last: &[u8]) -> Vec<u8> {
-        let bytes = match self.op % 13 {
-            11 => last.to_vec(),
-            12 => {
+        let bytes = match self.op % 14 {
+            12 => last.to_vec(),
+            13 => {
                 let mut again = last.to_vec();
                 if let Some(now) = again.get_mut(4..12) {
                     now.copy_from_slice(&View::new(world).clock().to_le_bytes());
@@ -172,13 +193,14 @@ impl Step {
     pub fn submission(&self, world: &World) -> Submission {
         let view = View::new(world);
         let now = self.now(&view);
-        let op = self.op % 13 + 1;
+        let op = self.op % 14 + 1;
         if op == 9 {
             return self.sweep(&view, now);
         }
         let (issued, expires) = self.window(now);
         let escrow = view
-            .escrow(true, self.pick())
+            .escrow_in_time(now, self.pick())
+            .or_else(|| view.escrow(true, self.pick()))
             .or_else(|| view.escrow(false, self.pick()));
         let receipt = self.answered(&view, now);
         let link = if op == 6 { self.claim_link(&view) } else { 0 };
@@ -193,7 +215,8 @@ impl Step {
                 .map(|escrow| escrow.to)
                 .or_else(|| view.any_wallet(self.pick())),
             7 | 8 => receipt.map(|receipt| receipt.requester),
-            2 | 3 => view.any_wallet(self.pick()),
+            2 | 3 => self.payer(&view),
+            12 if self.signer == OWN_SIGNER => self.to_close(&view, now),
             _ => Some(1),
         };
         let signer = self.signer(&view, natural.unwrap_or(7));
@@ -202,6 +225,7 @@ impl Step {
             7 | 8 => self.row(receipt.map(|row| row.number), view.receipt_count()),
             10 if view.system_frozen() && self.target < 8 => 0,
             10 | 11 => self.party(&view, signer, view.any_wallet(self.pick())),
+            12 => self.party(&view, signer, self.to_close(&view, now)),
             _ => self.party(&view, signer, linked.map(|row| row.from)),
         };
         let (signer, nonce) = self.nonce(&view, signer);

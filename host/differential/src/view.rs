@@ -1,7 +1,8 @@
 //! What a step sees of the tables that it is taken on.
 
-use milebeacon::{EscrowState, Ledger, ReceiptState};
+use milebeacon::{EscrowRow, EscrowState, Ledger, ReceiptState, WalletRow};
 
+use crate::left::Recipients;
 use crate::step::DAY_MS;
 use crate::twin::World;
 
@@ -86,8 +87,34 @@ impl<'a> View<'a> {
         self.wallet_ids.contains(&id)
     }
 
+    /// One of the wallets of this kind.
+    pub fn wallet(&self, kind: impl Fn(&WalletRow<'_>) -> bool, pick: u64) -> Option<u64> {
+        let rows = self.ledger.wallets().filter(kind);
+        let ids: Vec<u64> = rows.map(|row| row.id()).collect();
+        around(&ids, pick)
+    }
+
+    /// One that is not closed, if there is one.
     pub fn any_wallet(&self, pick: u64) -> Option<u64> {
-        around(&self.wallet_ids, pick)
+        self.wallet(|row| !row.is_closed(), pick)
+            .or_else(|| around(&self.wallet_ids, pick))
+    }
+
+    /// One that is neither closed nor frozen, if there is one.
+    pub fn payer(&self, pick: u64) -> Option<u64> {
+        self.wallet(|row| !row.is_closed() && !row.is_frozen(), pick)
+            .or_else(|| self.any_wallet(pick))
+    }
+
+    pub fn is_closed(&self, id: u64) -> bool {
+        self.ledger
+            .wallets()
+            .any(|wallet| wallet.id() == id && wallet.is_closed())
+    }
+
+    /// The parties that open escrows are to.
+    pub fn recipients(&self, now: u64) -> Recipients {
+        Recipients::of(&self.ledger, now)
     }
 
     /// Balance, cap per transaction, daily cap.
@@ -130,9 +157,25 @@ impl<'a> View<'a> {
     }
 
     pub fn escrow(&self, open: bool, pick: u64) -> Option<EscrowSeen> {
+        self.escrow_of(|row| !open || row.state() == Some(EscrowState::Open), pick)
+    }
+
+    /// One of the open escrows that are not stale.
+    pub fn escrow_in_time(&self, now: u64, pick: u64) -> Option<EscrowSeen> {
+        let kind =
+            |row: &EscrowRow<'_>| row.state() == Some(EscrowState::Open) && !row.is_stale(now);
+        self.escrow_of(kind, pick)
+    }
+
+    /// One of the escrows of this kind.
+    pub fn escrow_of(
+        &self,
+        kind: impl Fn(&EscrowRow<'_>) -> bool,
+        pick: u64,
+    ) -> Option<EscrowSeen> {
         let rows: Vec<EscrowSeen> = (1..)
             .zip(self.ledger.escrows())
-            .filter(|(_, row)| !open || row.state() == Some(EscrowState::Open))
+            .filter(|(_, row)| kind(row))
             .map(|(number, row)| EscrowSeen {
                 number,
                 from: row.from(),

@@ -93,10 +93,10 @@ fn the_row_that_refuses_is_named_by_its_age_and_operation() {
     assert_eq!(with(settled_at, NOW + 1), ways(11, [newest, later]));
     let other = "refused by a row of another operation";
     let none = "refused by a row of no operation that signs";
-    for word in [4, 11] {
+    for word in [4, 11, 12] {
         assert_eq!(with(operation, word), ways(11, [newest, other]));
     }
-    for word in [0, 9, 12, u64::MAX] {
+    for word in [0, 9, 13, u64::MAX] {
         assert_eq!(with(operation, word), ways(11, [newest, other, none]));
     }
 }

@@ -33,6 +33,8 @@ pub fn round(
     let entries = replay.entries().map_err(|d| d.to_string())?;
     for (change, on) in planned(round, dice) {
         let places = match change {
+            // what was recorded on a ledger in use mostly disagrees before it comes to the cut
+            Change::Cut(_) if replay.history.begin != Begin::Fresh && dice.once_in(2) => 1,
             Change::Cut(_) => entries.len().min(BEFORE_A_CUT),
             _ => entries.len(),
         };
