@@ -12,15 +12,19 @@
 //! - [`replay`] records what a history submits and how it is answered, changes the recording, and
 //! replays it on other tables. [`report`] adds such recordings to months' reports.
 //! - [`plan`] puts these together into a run of a given length from a given seed, of one [`mix`] or
-//! the other. [`tally`], [`daily`], [`retries`] and [`window`] say what the run came to.
+//! the other. [`tally`], [`daily`], [`retries`], [`window`], [`closed`], [`closing`], [`departed`]
+//! and [`lookups`] say what the run came to.
 
 #![forbid(unsafe_code)]
 #![warn(missing_docs)]
 
 pub mod clauses;
+pub mod closed;
+pub mod closing;
 pub mod codec;
 pub mod daily;
 pub mod damage;
+pub mod departed;
 pub mod dice;
 pub mod history;
 mod knobs;

@@ -4,9 +4,32 @@ use milebeacon::ffi::{self, Standing};
 use milebeacon::{lookup, EscrowNumber, ReceiptNumber};
 use second::FoundWallet;
 
+use crate::damage::MOST_ROWS;
 use crate::dice::Dice;
+use crate::reached::Reached;
 use crate::tally::Tally;
 use crate::twin::{same, Difference, World};
+
+/// What looking up wallets must find in a run, each at least once, and how it is told. Where nothing
+/// is found, it would be if the length, the count or the id were not asked for.
+const WANTED: [&str; 11] = [
+    "live",
+    "live, being frozen",
+    "live, with a frozen word above 2",
+    "live, before a closed row with the same id",
+    "closed",
+    "closed, before a row with the same id that is not",
+    "missing, in a row that is not written",
+    "missing, in a row of id 0",
+    "missing, with a header of a wrong length",
+    "missing, with wallets of a wrong length",
+    "missing, with more rows written than there are",
+];
+
+/// Counts of what was found.
+pub fn none() -> Reached {
+    Reached::none("wallets that were looked up", &WANTED)
+}
 
 /// Where a part of a table begins, in words; the table's length for an empty part.
 fn place(table: &[u64], part: &[u64]) -> usize {
@@ -55,13 +78,53 @@ fn standing(found: FoundWallet<u64>) -> Standing {
 }
 
 /// One wallet: whether it is missing, live or closed, and that very row, of six words.
-fn wallet(header: &[u64], wallets: &[u64], id: u64) -> Result<(), Difference> {
+fn wallet(header: &[u64], wallets: &[u64], id: u64) -> Result<Standing, Difference> {
     let core = ffi::wallet_row(header, wallets, id);
     let second = second::wallet_row(header, wallets, id);
     let found = same("wallet's state and row", core, standing(second))?;
     let row = lookup::wallet_row(header, wallets, id).row();
     let place = row.map_or(0, |row| place(wallets, row.words()) / 6 + 1);
-    same("wallet's place", place as u64, found.number).map(drop)
+    same("wallet's place", place as u64, found.number)?;
+    Ok(found)
+}
+
+/// What a lookup came to, given what it found; nothing if it found nothing and no row has the id.
+fn found(header: &[u64], wallets: &[u64], id: u64, found: Standing) -> Option<&'static str> {
+    let rows = || wallets.chunks_exact(6);
+    let row = found
+        .number
+        .checked_sub(1)
+        .and_then(|before| rows().nth(before as usize));
+    let row = match row {
+        Some(row) => row,
+        None => return not_found(header, wallets, id),
+    };
+    let written = header.get(4).map_or(0, |&count| count as usize);
+    let mut later = rows().take(written).skip(found.number as usize);
+    let next = later.find(|row| row[0] == id).map(|row| row[3]);
+    Some(match (row[3], next) {
+        (2, Some(word)) if word != 2 => "closed, before a row with the same id that is not",
+        (2, _) => "closed",
+        (_, Some(2)) => "live, before a closed row with the same id",
+        (0, _) => "live",
+        (1, _) => "live, being frozen",
+        _ => "live, with a frozen word above 2",
+    })
+}
+
+fn not_found(header: &[u64], wallets: &[u64], id: u64) -> Option<&'static str> {
+    let mut rows = wallets.chunks_exact(6);
+    let room = rows.len();
+    let place = rows.position(|row| row[0] == id)?;
+    let wrong = wallets.len() % 6 != 0 || room > MOST_ROWS[1];
+    Some(match header.get(4) {
+        Some(_) if wrong => "missing, with wallets of a wrong length",
+        Some(_) if header.len() != 8 => "missing, with a header of a wrong length",
+        Some(&written) if written > room as u64 => "missing, with more rows written than there are",
+        Some(&written) if place as u64 >= written => "missing, in a row that is not written",
+        Some(_) => "missing, in a row of id 0",
+        None => "missing, with a header of a wrong length",
+    })
 }
 
 /// Looks up numbers that are written, that are not, and that no table has; and all ids.
@@ -95,7 +158,11 @@ pub fn all(world: &World, dice: &mut Dice, tally: &mut Tally) -> Result<(), Diff
     }
     let written = wallets.chunks(6).map(|row| row[0]).take(40);
     for id in written.chain(numbers) {
-        wallet(header, wallets, id)?;
+        let standing = wallet(header, wallets, id)?;
+        let way = found(header, wallets, id, standing);
+        tally
+            .lookups
+            .count(way.map(str::to_owned).into_iter().collect());
         tally.other_calls += 1;
     }
     Ok(())

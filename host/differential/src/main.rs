@@ -38,9 +38,7 @@ fn main() -> ExitCode {
                 println!("{goal}");
             }
             let all = tally.missing().is_empty()
-                && tally.daily.missing().is_empty()
-                && tally.retries.missing().is_empty()
-                && tally.window.missing().is_empty()
+                && tally.ways().iter().all(|ways| ways.missing().is_empty())
                 && tally.replays.missing().is_empty()
                 && tally.reports.missing().is_empty();
             let reached = all && goals.iter().all(Goal::is_reached);

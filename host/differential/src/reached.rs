@@ -8,19 +8,29 @@ use std::fmt;
 #[derive(Clone, Debug)]
 pub struct Reached {
     kind: &'static str,
-    wanted: &'static [&'static str],
+    wanted: Vec<String>,
     times: BTreeMap<String, u64>,
 }
 
 impl Reached {
     /// None so far, of submissions of this kind. Each of the wanted ways must be come to at least
     /// once.
-    pub fn none(kind: &'static str, wanted: &'static [&'static str]) -> Reached {
+    pub fn none(kind: &'static str, wanted: &[&str]) -> Reached {
+        Reached::of(kind, wanted.iter().map(|&way| way.to_owned()).collect())
+    }
+
+    /// The same of ways that are made out of parts.
+    pub fn of(kind: &'static str, wanted: Vec<String>) -> Reached {
         Reached {
             kind,
             wanted,
             times: BTreeMap::new(),
         }
+    }
+
+    /// What they are counts of.
+    pub fn kind(&self) -> &'static str {
+        self.kind
     }
 
     /// Counts what one submission came to.
@@ -31,8 +41,8 @@ impl Reached {
     }
 
     /// What was not reached.
-    pub fn missing(&self) -> Vec<&'static str> {
-        let wanted = self.wanted.iter().copied();
+    pub fn missing(&self) -> Vec<&str> {
+        let wanted = self.wanted.iter().map(String::as_str);
         wanted.filter(|way| self.times(way) == 0).collect()
     }
 
@@ -49,10 +59,17 @@ impl Reached {
     }
 }
 
+/// Those of the ways that hold.
+pub(crate) fn holding<const N: usize>(ways: [(bool, &str); N]) -> impl Iterator<Item = String> {
+    let ways = ways.into_iter().filter(|(holds, _)| *holds);
+    let all: Vec<String> = ways.map(|(_, way)| way.to_owned()).collect();
+    all.into_iter()
+}
+
 impl fmt::Display for Reached {
     fn fmt(&self, f: &mut fmt::Formatter<'_>) -> fmt::Result {
         f.write_str(self.kind)?;
-        for way in self.wanted {
+        for way in &self.wanted {
             write!(f, "\n{:>9} {way}", self.times(way))?;
         }
         let missing = self.missing();

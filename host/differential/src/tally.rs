@@ -2,7 +2,11 @@
 
 use std::fmt;
 
+use crate::closed;
+use crate::closing;
 use crate::daily;
+use crate::departed;
+use crate::lookups;
 use crate::reached::Reached;
 use crate::replay::counts::Replays;
 use crate::report::counts::Reports;
@@ -30,6 +34,14 @@ pub struct Tally {
     pub retries: Reached,
     /// Replies and sweeps that a receipt's acceptance deadline decided.
     pub window: Reached,
+    /// Records that name a closed wallet.
+    pub closed: Reached,
+    /// Closes by what is left in the wallet.
+    pub closing: Reached,
+    /// What closed wallets take part in.
+    pub departed: Reached,
+    /// What looking up wallets found.
+    pub lookups: Reached,
     /// What replays of recordings came to. The entries replayed are not among the submissions.
     pub replays: Replays,
     /// What reports came to. Nor are the entries added to them.
@@ -46,6 +58,10 @@ impl Default for Tally {
             daily: daily::none(),
             retries: retries::none(),
             window: window::none(),
+            closed: closed::none(),
+            closing: closing::none(),
+            departed: departed::none(),
+            lookups: lookups::none(),
             replays: Replays::default(),
             reports: Reports::default(),
         }
@@ -119,6 +135,19 @@ impl Tally {
         .collect()
     }
 
+    /// What submissions and lookups were decided by, each kind with what a run must come to.
+    pub fn ways(&self) -> [&Reached; 7] {
+        [
+            &self.daily,
+            &self.retries,
+            &self.window,
+            &self.closed,
+            &self.closing,
+            &self.departed,
+            &self.lookups,
+        ]
+    }
+
     /// Adds another tally to this one.
     pub fn add(&mut self, other: &Tally) {
         for (row, more) in self.counts.iter_mut().zip(&other.counts) {
@@ -132,6 +161,10 @@ impl Tally {
         self.daily.add(&other.daily);
         self.retries.add(&other.retries);
         self.window.add(&other.window);
+        self.closed.add(&other.closed);
+        self.closing.add(&other.closing);
+        self.departed.add(&other.departed);
+        self.lookups.add(&other.lookups);
         self.replays.add(&other.replays);
         self.reports.add(&other.reports);
     }
@@ -172,9 +205,9 @@ impl fmt::Display for Tally {
         } else {
             writeln!(f, "not reached (operation, answer): {missing:?}")?;
         }
-        writeln!(f, "{}", self.daily)?;
-        writeln!(f, "{}", self.retries)?;
-        writeln!(f, "{}", self.window)?;
+        for ways in self.ways() {
+            writeln!(f, "{ways}")?;
+        }
         writeln!(f, "{}", self.replays)?;
         write!(f, "{}", self.reports)
     }

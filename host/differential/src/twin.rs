@@ -7,7 +7,10 @@ use milebeacon::ffi::{Told, Verdict};
 use milebeacon::{ffi, Sizes, Tables};
 use second::Added;
 
+use crate::closed;
+use crate::closing;
 use crate::daily;
+use crate::departed;
 use crate::replay::verdict;
 use crate::report::twice::{told, Twice};
 use crate::retries;
@@ -22,6 +25,14 @@ pub const TABLE_NAMES: [&str; 5] = ["header", "wallets", "escrows", "receipts", 
 
 /// The words of one row of each table.
 pub const ROW_WORDS: [usize; 5] = [8, 6, 8, 14, 8];
+
+/// What no submission may come to, though both programs agree on it.
+const NEVER: [&str; 4] = [
+    window::NEVER,
+    closed::NEVER,
+    departed::NEVER[0],
+    departed::NEVER[1],
+];
 
 /// What the two programs did not agree on.
 #[derive(Clone, Debug, PartialEq, Eq)]
@@ -164,16 +175,24 @@ impl Twin {
         let paid = daily::decided(&self.second, record, answer.number);
         let tried = retries::decided(&self.second, record, answer.number);
         let timed = window::decided(&self.second, record, answer.number, self.began);
+        let named = closed::decided(&self.second, record, answer.number);
+        let closings = closing::decided(&self.second, record, answer.number, self.began);
+        let (before, after) = (&self.second, &self.core);
+        let departed = departed::decided(before, after, record, answer.number, self.began);
         let second = guarded(|| second::submit(&mut lent(&mut self.second), record))?;
         let answer = same("answer and word", (answer.number, answer.word), second)?;
         self.compare()?;
-        if timed.iter().any(|way| way == window::NEVER) {
-            return Err(Difference(format!("{}: this must not be", window::NEVER)));
+        let mut ways = timed.iter().chain(&named).chain(&departed);
+        if let Some(way) = ways.find(|way| NEVER.contains(&way.as_str())) {
+            return Err(Difference(format!("{way}: this must not be")));
         }
         tally.count(record, answer.0);
         tally.daily.count(paid);
         tally.retries.count(tried);
         tally.window.count(timed);
+        tally.closed.count(named);
+        tally.closing.count(closings);
+        tally.departed.count(departed);
         tally.on_largest += u64::from(is_largest(&self.core));
         Ok(answer)
     }

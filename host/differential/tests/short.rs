@@ -1,7 +1,7 @@
 //! The seeded short runs: no difference, and every answer that the rules list is reached, every way
-//! in which a hold decides at the daily cap, a journal row whether a nonce is used or an acceptance
-//! deadline whether a reply comes in time, every finding of a replay, and all that a report must
-//! come to.
+//! in which a hold decides at the daily cap, a journal row whether a nonce is used, an acceptance
+//! deadline whether a reply comes in time or a closed wallet what is answered, every finding of a
+//! lookup and of a replay, and all that a report must come to.
 
 use differential::mix::Mix;
 use differential::plan::{run, Plan, SHORT};
@@ -10,9 +10,9 @@ fn finds_no_difference_and_reaches_all(plan: Plan) {
     let tally = run(plan, &mut |_| {}).unwrap_or_else(|f| panic!("{f}"));
     println!("{plan}\n{tally}");
     assert_eq!(tally.missing(), [], "not reached");
-    assert_eq!(tally.daily.missing(), [""; 0], "not reached by payments");
-    assert_eq!(tally.retries.missing(), [""; 0], "not reached by retries");
-    assert_eq!(tally.window.missing(), [""; 0], "not reached by replies");
+    for ways in tally.ways() {
+        assert_eq!(ways.missing(), [""; 0], "not reached of {}", ways.kind());
+    }
     assert_eq!(tally.replays.missing(), [""; 0], "not reached by replays");
     assert_eq!(tally.reports.missing(), [""; 0], "not reached by reports");
     assert_eq!(
@@ -34,7 +34,7 @@ fn short_run_finds_no_difference_and_reaches_every_answer() {
 fn short_run_of_what_settles_does_so_too_and_comes_to_its_goals() {
     finds_no_difference_and_reaches_all(Plan {
         mix: Mix::Settling,
-        submissions: 100_000,
+        submissions: 150_000,
         ..SHORT
     });
 }
