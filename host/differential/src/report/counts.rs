@@ -17,7 +17,7 @@ use crate::replay::recording::Change;
 use crate::twin::{slices, World, ROW_WORDS, TABLE_NAMES};
 
 /// What a run must come to, each at least once, and how it is told.
-const WANTED: [&str; 59] = [
+const WANTED: [&str; 64] = [
     "named: granted",
     "named: transferred",
     "named: released",
@@ -56,6 +56,11 @@ const WANTED: [&str; 59] = [
     "counted: malformed, in row 0",
     "counted: an accept after the deadline",
     "counted: a dispute after the deadline",
+    "counted: a close that settled",
+    "counted: a close that is malformed",
+    "counted: a close of a wallet that is not empty",
+    "counted: a close of a closed wallet",
+    "counted: a record that names a closed wallet",
     "counted: released by a release",
     "counted: released by an accept",
     "counted: released by a sweep",

@@ -1,11 +1,12 @@
 //! Histories in which credits move in every way that a report counts: grants, transfers, releases,
 //! refunds, accepts, and sweeps that release and expire in one go. Replies that come too late are
-//! among them.
+//! among them, a crew that leaves, and what is then refused because its wallet is closed.
 
 use milebeacon::Sizes;
 
 use crate::dice::Dice;
 use crate::history::{Begin, History};
+use crate::parties::{departure, CLOSED, WITH_BALANCE};
 use crate::start::roomy_sizes;
 use crate::step::Step;
 
@@ -18,6 +19,7 @@ const CLAIM: u8 = 5;
 const ACCEPT: u8 = 6;
 const DISPUTE: u8 = 7;
 const SWEEP: u8 = 8;
+const CLOSE: u8 = 11;
 
 /// Such a history, mostly of one day. Some steps by chance are among the others.
 pub fn roll(dice: &mut Dice) -> History {
@@ -108,5 +110,13 @@ fn day(steps: &mut Vec<Step>, dice: &mut Dice) {
         amount: dice.pick(&[2, 2, 2, 4, 4, 4, 7, 0]),
         ..plain(SWEEP, dice)
     });
+    steps.extend(departure(dice));
+    // to a closed wallet, of one, and of one that has balance
+    steps.extend(
+        [(GRANT, CLOSED), (CLOSE, CLOSED), (CLOSE, WITH_BALANCE)].map(|(op, target)| Step {
+            target,
+            ..plain(op, dice)
+        }),
+    );
     steps.push(plain(GRANT, dice));
 }

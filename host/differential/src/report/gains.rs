@@ -32,8 +32,11 @@ pub const CELL: usize = 5;
 
 const MALFORMED: usize = 3;
 const ACCEPTANCE_CLOSED: usize = 41;
+const NOT_EMPTY: usize = 42;
+const WALLET_CLOSED: usize = 43;
 const ACCEPT: usize = 7;
 const SWEEP: usize = 9;
+const CLOSE: usize = 12;
 
 /// What one entry adds.
 #[derive(Clone, Debug, PartialEq, Eq)]
@@ -75,23 +78,9 @@ pub fn gains(tables: &World, recording: &[u8]) -> Option<Vec<Gain>> {
             operation @ 1..=OPERATIONS => operation,
             _ => 0,
         };
-        let mut ways = Vec::new();
+        let mut ways: Vec<&str> = told(row, answer).into_iter().collect();
         if usize::from(entry.recorded.number) != answer {
             ways.push("another answer than the recorded one");
-        }
-        if answer == MALFORMED {
-            ways.push(if row == 0 {
-                "malformed, in row 0"
-            } else {
-                "malformed, in its operation's row"
-            });
-        }
-        if answer == ACCEPTANCE_CLOSED {
-            ways.push(if row == ACCEPT {
-                "an accept after the deadline"
-            } else {
-                "a dispute after the deadline"
-            });
         }
         let mut credits = [0; 5];
         if answer == 0 {
@@ -107,6 +96,22 @@ pub fn gains(tables: &World, recording: &[u8]) -> Option<Vec<Gain>> {
         }
     });
     Some(entries.collect())
+}
+
+/// What is told of an entry by its cell alone.
+fn told(row: usize, answer: usize) -> Option<&'static str> {
+    match (row, answer) {
+        (0, MALFORMED) => Some("malformed, in row 0"),
+        (CLOSE, MALFORMED) => Some("a close that is malformed"),
+        (_, MALFORMED) => Some("malformed, in its operation's row"),
+        (ACCEPT, ACCEPTANCE_CLOSED) => Some("an accept after the deadline"),
+        (_, ACCEPTANCE_CLOSED) => Some("a dispute after the deadline"),
+        (CLOSE, 0) => Some("a close that settled"),
+        (CLOSE, WALLET_CLOSED) => Some("a close of a closed wallet"),
+        (_, WALLET_CLOSED) => Some("a record that names a closed wallet"),
+        (_, NOT_EMPTY) => Some("a close of a wallet that is not empty"),
+        _ => None,
+    }
 }
 
 /// What matters of a ledger.
