@@ -15,7 +15,7 @@ use crate::record::word;
 use crate::twin::{Began, World};
 
 /// What a run must come to, each at least once, and how it is told.
-const WANTED: [&str; 26] = [
+const WANTED: [&str; 25] = [
     "wallet made beside a closed one",
     "payment answered 37 beside a closed wallet",
     "grant settled, signed by a closed wallet",
@@ -26,8 +26,7 @@ const WANTED: [&str; 26] = [
     "freeze settled, signed by a closed wallet",
     "caps settled, signed by a closed wallet",
     "close settled, signed by a closed wallet",
-    "accept settled, signed by a closed wallet, on a ledger begun afresh",
-    "dispute settled, signed by a closed wallet, on a ledger begun afresh",
+    "reply settled, signed by a closed wallet, on a ledger begun afresh",
     "release settled, its number a closed wallet's id",
     "refund settled, its number a closed wallet's id",
     "accept settled, its number a closed wallet's id",
@@ -100,9 +99,13 @@ impl Done<'_> {
         let operation = self.operation;
         let mut all = Vec::new();
         if self.closed.contains(&word(self.record, 1)) {
-            let signed = format!("{operation} settled, signed by a closed wallet");
-            all.push(format!("{signed}, on {}", self.began));
-            all.push(signed);
+            all.push(format!("{operation} settled, signed by a closed wallet"));
+            if matches!(operation, Operation::Accept | Operation::Dispute) {
+                all.push(format!(
+                    "reply settled, signed by a closed wallet, on {}",
+                    self.began
+                ));
+            }
         }
         let by_number = matches!(operation.number(), 4 | 5 | 7 | 8);
         if by_number && self.closed.contains(&word(self.record, 5)) {

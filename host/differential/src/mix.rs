@@ -71,8 +71,12 @@ impl Mix {
             Mix::Limits => limits(round, dice),
             Mix::Settling => settling(round, dice),
         };
-        // neither the first nor the last, which are recorded too
-        for _ in 0..2 {
+        let departures = match self {
+            Mix::Limits => 2,
+            Mix::Settling => 3,
+        };
+        for _ in 0..departures {
+            // neither the first nor the last, which are recorded too
             histories.insert(1, History::departures(dice, 60));
         }
         if round % 4 == 3 {

@@ -14,6 +14,7 @@ const OPEN: u8 = 2;
 const RELEASE: u8 = 3;
 const REFUND: u8 = 4;
 const CLAIM: u8 = 5;
+const ACCEPT: u8 = 6;
 const FREEZE: u8 = 9;
 const CAPS: u8 = 10;
 const CLOSE: u8 = 11;
@@ -27,7 +28,8 @@ pub(crate) const OWN_SIGNER: u8 = 8;
 const LEAVING_SIGNER: u8 = 9;
 
 /// The knobs of the target for a party with no wallet, for nobody, for the signer, and for a party
-/// whose wallet is closed; the last is beyond those that mean a frozen system to a freeze.
+/// whose wallet is closed, to an accept for a receipt that pays or is paid by one; the last is beyond
+/// those that mean a frozen system to a freeze.
 const UNKNOWN: u8 = 1;
 const NOBODY: u8 = 3;
 const ITSELF: u8 = 4;
@@ -139,6 +141,7 @@ impl Step {
                 self.amount = dice.pick(&[0, 0, 0, 3]);
             }
             CLOSE => self.close_of_any_kind(dice),
+            ACCEPT => self.target = CLOSED,
             // by an admin, who need not be a party to the escrow
             RELEASE | REFUND => {
                 self.signer = CLOSED_SIGNER;
@@ -166,10 +169,12 @@ impl Step {
         (self.signer, self.target) = dice.pick(&[
             (CLOSED_SIGNER, 0),
             (CLOSED_SIGNER, 0),
+            (CLOSED_SIGNER, 0),
             (CLOSED_SIGNER, CLOSED),
             (CLOSED_SIGNER, UNKNOWN),
             (CLOSED_SIGNER, NOBODY),
             (CLOSED_SIGNER, ITSELF),
+            (0, CLOSED),
             (0, CLOSED),
             (0, CLOSED),
             (UNKNOWN_SIGNER, CLOSED),

@@ -2,6 +2,7 @@
 //! its end, or after it.
 
 use crate::dice::Dice;
+use crate::parties::CLOSED as CLOSED_WALLET;
 use crate::step::{Step, DAY_MS};
 use crate::view::{ReceiptSeen, View};
 
@@ -50,6 +51,11 @@ impl Step {
         let chosen = match (self.tick, self.target) {
             (AT | JUST_AFTER | LONG_AFTER, _) => self.awaited(view),
             (_, CLOSED) => view.receipt(|row| !row.is_pending, pick),
+            (_, CLOSED_WALLET) => {
+                let escrows = view.escrows_of_closed(now);
+                view.receipt(|row| in_time(row) && escrows.contains(&row.link), pick)
+                    .or_else(|| view.receipt(in_time, pick))
+            }
             _ => view.receipt(in_time, pick),
         };
         chosen

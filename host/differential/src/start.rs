@@ -152,21 +152,25 @@ pub fn sound(dice: &mut Dice, sizes: Sizes, filled: Filled) -> World {
 }
 
 /// A sound ledger with about half of its wallets closed, whatever they have. Of all wallets some have
-/// no balance, and half have caps that allow any payment.
+/// no balance; and most have caps that allow any payment, or one cap that allows little.
 pub fn departed(dice: &mut Dice, sizes: Sizes) -> World {
     let filled = Filled::departed(dice, sizes);
     let mut world = sound(dice, sizes, filled);
     let written = world.header[4] as usize;
     for wallet in world.wallets.chunks_exact_mut(6).take(written) {
         wallet[3] = dice.pick(&[0, 0, 0, 1, 2, 2, 2, 2]);
-        if dice.once_in(2) {
-            wallet[4..].fill(u64::MAX);
+        match dice.below(6) {
+            0 => {}
+            1 => wallet[4..].copy_from_slice(&[50, u64::MAX]),
+            2 => wallet[4..].copy_from_slice(&[u64::MAX, 50]),
+            _ => wallet[4..].fill(u64::MAX),
         }
-        if dice.once_in(3) {
+        if dice.once_in(4) {
             world.header[3] -= wallet[1];
             wallet[1] = 0;
         }
     }
+    world.header[1] = u64::from(dice.once_in(5));
     world
 }
 

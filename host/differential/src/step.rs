@@ -100,7 +100,9 @@ impl Step {
 
     /// A step by chance of which most name a closed wallet, and the clock mostly stands still.
     pub fn departed(dice: &mut Dice) -> Step {
-        let ops = [0, 0, 1, 1, 2, 2, 2, 3, 4, 5, 5, 5, 6, 7, 8, 9, 10, 11, 11];
+        let ops = [
+            0, 0, 1, 1, 2, 2, 2, 3, 4, 5, 5, 5, 6, 7, 8, 8, 9, 10, 11, 11,
+        ];
         let wild = dice.pick(&[0, 0, 0, 1]);
         let mut step = Step::of(dice.pick(&ops), dice, wild);
         if !dice.once_in(6) {
@@ -202,7 +204,10 @@ impl Step {
             .escrow_in_time(now, self.pick())
             .or_else(|| view.escrow(true, self.pick()))
             .or_else(|| view.escrow(false, self.pick()));
-        let receipt = self.answered(&view, now);
+        let receipt = match op {
+            7 | 8 => self.answered(&view, now),
+            _ => None,
+        };
         let link = if op == 6 { self.claim_link(&view) } else { 0 };
         let linked = if link == 0 {
             None

@@ -1,5 +1,7 @@
 //! What a step sees of the tables that it is taken on.
 
+use std::collections::BTreeSet;
+
 use milebeacon::{EscrowRow, EscrowState, Ledger, ReceiptState, WalletRow};
 
 use crate::left::Recipients;
@@ -26,6 +28,7 @@ pub struct EscrowSeen {
 pub struct ReceiptSeen {
     pub number: u64,
     pub requester: u64,
+    pub link: u64,
     pub deadline: u64,
     pub is_pending: bool,
 }
@@ -100,10 +103,13 @@ impl<'a> View<'a> {
             .or_else(|| around(&self.wallet_ids, pick))
     }
 
-    /// One that is neither closed nor frozen, if there is one.
+    /// One that can pay something, if there is one.
     pub fn payer(&self, pick: u64) -> Option<u64> {
-        self.wallet(|row| !row.is_closed() && !row.is_frozen(), pick)
-            .or_else(|| self.any_wallet(pick))
+        let can_pay = |row: &WalletRow<'_>| {
+            let limits = [row.balance(), row.per_transaction_cap(), row.daily_cap()];
+            !row.is_closed() && !row.is_frozen() && !limits.contains(&0)
+        };
+        self.wallet(can_pay, pick).or_else(|| self.any_wallet(pick))
     }
 
     pub fn is_closed(&self, id: u64) -> bool {
@@ -186,6 +192,17 @@ impl<'a> View<'a> {
         around(&rows, pick)
     }
 
+    /// The numbers of the escrows with a closed wallet that are open and not stale.
+    pub fn escrows_of_closed(&self, now: u64) -> BTreeSet<u64> {
+        let rows = (1..).zip(self.ledger.escrows());
+        let open = rows.filter(|(_, row)| {
+            row.state() == Some(EscrowState::Open)
+                && !row.is_stale(now)
+                && [row.from(), row.to()].iter().any(|&id| self.is_closed(id))
+        });
+        open.map(|(number, _)| number).collect()
+    }
+
     /// One of the receipts of this kind.
     pub fn receipt(&self, kind: impl Fn(&ReceiptSeen) -> bool, pick: u64) -> Option<ReceiptSeen> {
         let rows: Vec<ReceiptSeen> = (1..)
@@ -193,6 +210,7 @@ impl<'a> View<'a> {
             .map(|(number, row)| ReceiptSeen {
                 number,
                 requester: row.requester(),
+                link: row.link(),
                 deadline: seen(row.acceptance_deadline()),
                 is_pending: row.state() == Some(ReceiptState::Pending),
             })

@@ -154,10 +154,12 @@ fn takes_part(world: &World, submission: Submission) -> (u64, Vec<String>) {
 
 #[test]
 fn what_a_closed_wallet_signs_is_told() {
-    let world = with(0, &[(7, 8, 2, LATER, OPEN)]);
+    let mut world = with(0, &[(7, 8, 2, LATER, OPEN)]);
+    world.header[6] = 1;
+    world.receipts[..6].copy_from_slice(&[8, 20, 0, LATER, 0, 1]);
     let signed = |what: &str| {
         let way = format!("{what} settled, signed by a closed wallet");
-        ways(0, [&format!("{way}, on a lent ledger"), &way])
+        ways(0, [&way])
     };
     let grant = Submission::grant(admin(20), 8, 5);
     assert_eq!(takes_part(&world, grant), signed("grant"));
@@ -165,6 +167,11 @@ fn what_a_closed_wallet_signs_is_told() {
     assert_eq!(takes_part(&world, release), signed("release"));
     let caps = Submission::caps(admin(20), 8, 1, 1);
     assert_eq!(takes_part(&world, caps), signed("caps"));
+    let (answer, mut told) = takes_part(&world, Submission::accept(by(20), ReceiptNumber(1)));
+    let reply = told.pop();
+    assert_eq!((answer, told), signed("accept"));
+    let way = "reply settled, signed by a closed wallet, on a lent ledger";
+    assert_eq!(reply, Some(way.to_owned()));
     assert_eq!(
         takes_part(&world, Submission::grant(admin(7), 8, 5)),
         ways(0, [])

@@ -111,12 +111,18 @@ fn day(steps: &mut Vec<Step>, dice: &mut Dice) {
         ..plain(SWEEP, dice)
     });
     steps.extend(departure(dice));
-    // to a closed wallet, of one, and of one that has balance
-    steps.extend(
-        [(GRANT, CLOSED), (CLOSE, CLOSED), (CLOSE, WITH_BALANCE)].map(|(op, target)| Step {
+    // to a closed wallet, of one, of one that has balance; and malformed, as a close has no amount
+    for (op, target, amount) in [
+        (GRANT, CLOSED, 0),
+        (CLOSE, CLOSED, 0),
+        (CLOSE, WITH_BALANCE, 0),
+        (CLOSE, 0, 15),
+    ] {
+        steps.push(Step {
             target,
+            amount,
             ..plain(op, dice)
-        }),
-    );
+        });
+    }
     steps.push(plain(GRANT, dice));
 }
