@@ -83,3 +83,17 @@ fn a_hold_that_decides_at_the_end_of_its_day_takes_four_steps() {
         );
     }
 }
+
+#[test]
+fn a_closed_wallet_takes_four_steps() {
+    // grant, a transfer of all of it, close, and what names the wallet
+    let (length, small) = smallest(&|answer, _| answer == 43);
+    assert!(small.steps.len() <= 4, "{length} steps became {small:#?}");
+}
+
+#[test]
+fn what_is_left_in_a_wallet_takes_two_steps() {
+    // grant, close
+    let (length, small) = smallest(&|answer, _| answer == 42);
+    assert!(small.steps.len() <= 2, "{length} steps became {small:#?}");
+}
