@@ -1,7 +1,7 @@
 -- What is left to check of a claim whose parties are live: its times, the escrow that it links, and room.
 use mathlib.Core.List.{List, [], _∷_}
 use mathlib.Core.Bool.{Bool, not, _&&_, _||_}
-use Prim.Native.Nat.{ℕ, _+_, _-_}
+use Prim.Native.Nat.{_+_, _-_}
 use lib.Dec.{eqb, ltb}
 use Rattle.rules.specs.Limits.{RECEIPT-LEN, JOURNAL-LEN, MIN-ACCEPTANCE-MS, MAX-ACCEPTANCE-MS, FROM, TO, ESCROW-DEADLINE}
 use Rattle.rules.specs.Ledger.{Ledger, escrow, escrowCount, receiptCount, entryCount, written, full}

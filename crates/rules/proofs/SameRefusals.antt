@@ -8,7 +8,7 @@ use borrow.Author.Tests.{ltb-true}
 use Rattle.rules.specs.Limits.{WALLET-LEN, RECEIPT-LEN}
 use Rattle.rules.specs.Limits.{BALANCE, LOCKED, FROZEN, IS-FROZEN, IS-CLOSED, TX-CAP, DAILY-CAP, FROM, TO, ESCROW-DEADLINE, ESCROW-STATE, REQUESTER, ACCEPTANCE-DEADLINE, RECEIPT-STATE, IS-OPEN, PENDING}
 use Rattle.rules.specs.Limits.{SIGNER, NONCE, OPERATION, ENTRY-AMOUNT, SETTLED-AT, ADMIN}
-use Rattle.rules.specs.Ledger.{Ledger, receipt, walletCount, escrowCount, receiptCount, walletRow, hasWallet, walletOf, written}
+use Rattle.rules.specs.Ledger.{Ledger, receipt, escrowCount, receiptCount, walletOf, written}
 use Rattle.rules.specs.Wallets.{isClosed, openTo}
 use Rattle.rules.specs.Refusals.{clear, seenIn, seen, countedOf, counted, sender, ofEscrow, ofReceipt, releasable, notEmpty}
 use Rattle.rules.specs.Refusals.{entryRefusals, envelopeRefusals, operationRefusals, refusals}

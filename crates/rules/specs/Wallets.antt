@@ -8,7 +8,7 @@ use Prim.Native.Nat.{ℕ, _+_, _-_, _≤_, _<_}
 use lib.Dec.{eqb, ltb}
 use Rattle.rules.specs.Limits.{WALLET-LEN, ID, FROZEN, IS-CLOSED, TO, ESCROW-STATE, IS-OPEN, WALLET-MISSING, WALLET-LIVE, WALLET-CLOSED}
 use Rattle.rules.specs.Table.{word, some}
-use Rattle.rules.specs.Ledger.{Ledger, escrow, walletCount, escrowCount, rowOf, walletRow, hasWallet}
+use Rattle.rules.specs.Ledger.{Ledger, walletCount, rowOf, walletRow, hasWallet}
 use Rattle.rules.specs.declared.WalletNumber.{WalletNumber}
 use Rattle.rules.specs.declared.WalletState.{WalletState}
 use Rattle.rules.specs.declared.WalletState.the-variants.{Missing, Live, Closed}

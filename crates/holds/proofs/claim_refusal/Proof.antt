@@ -6,7 +6,7 @@ use Rattle.rules.specs.Ledger.{Ledger, ledgerOf}
 use Rattle.rules.specs.Refusals.{first, operationRefusals}
 use Rattle.rules.specs.declared.WalletState.{WalletState}
 use Rattle.holds.specs.Terms.{termRefusals}
-use Rattle.holds.proofs.Claim.{byRequester, byParties, claim-by, claim-invalid}
+use Rattle.holds.proofs.Claim.{byParties, claim-by, claim-invalid}
 use borrow.Author.Needs.{needs}
 use Rattle.holds.proofs.claim_refusal.Statement.{statement}
 use Rattle.holds.proofs.claim_refusal.Tie as tie

@@ -1,6 +1,5 @@
 -- `moves::ensure_wallet` meets its contract: the wallet is there, live or closed, or its row is added.
 use mathlib.Core.Path.{sym, _∙_}
-use native.Mathlib.Omega.{arith}
 use Rattle.rules.proofs.Wallets.{look-says}
 use Rattle.moves.proofs.Wallets.{ensured-found, ensured-new, next-row}
 use borrow.Author.Needs.{needs}

@@ -1,6 +1,5 @@
 -- `moves::party` meets its contract: live or closed, it is the row that is found.
 use mathlib.Core.Path.{sym, _∙_}
-use native.Mathlib.Omega.{arith}
 use Rattle.rules.proofs.Wallets.{look-says}
 use Rattle.moves.proofs.Wallets.{next-row}
 use borrow.Author.Needs.{needs}

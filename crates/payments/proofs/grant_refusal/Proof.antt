@@ -1,5 +1,5 @@
 -- `payments::grant_refusal` meets its contract: each arm is told what was found of the recipient.
-use mathlib.Core.Path.{_≡_, sym, ap, _∙_}
+use mathlib.Core.Path.{sym, ap, _∙_}
 use mathlib.Core.Logic.{⊎-elim}
 use Rattle.payments.proofs.Grant.{byRecipient, grant-by}
 use borrow.Author.Needs.{needs}

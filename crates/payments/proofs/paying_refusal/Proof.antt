@@ -7,7 +7,6 @@ use denote.Ref.{now}
 use Rattle.rules.specs.Limits.{WALLETS}
 use Rattle.rules.specs.Ledger.{rowOf, ledgerOf}
 use Rattle.rules.specs.Refusals.{first}
-use Rattle.rules.specs.declared.WalletState.the-variants.{Live}
 use Rattle.rules.proofs.Wallets.{look-says}
 use Rattle.rows.proofs.Found.{names-found}
 use Rattle.payments.specs.Sending.{sendingRefusals}
