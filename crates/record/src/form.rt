@@ -26,7 +26,7 @@ pub fn well_formed(s: Submission) -> bool
 {
     let op = s.op;
     let flags = s.flags;
-    // What operations 1 to 11 use besides now. The envelope is signer, nonce, issued and expires; all but the sweep have it, and a target.
+    // What operations 1 to 12 use besides now. The envelope is signer, nonce, issued and expires; all but the sweep have it, and a target.
     let envelope = !(op == SWEEP);
     let admin = (op == GRANT)
         | ((op == RELEASE) | ((op == REFUND) | ((op == FREEZE) | ((op == CAPS) | (op == CLOSE)))));
