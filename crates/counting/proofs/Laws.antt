@@ -14,7 +14,7 @@ use Rattle.rules.specs.Ledger.{Ledger, Outcome, outcome}
 use Rattle.rules.specs.Record.{decode, readOf}
 use Rattle.rules.specs.Report.{Grid, cell, raised, Report, reportOf, gridRow, addsOf, Line, lineOf, sums, tallied, firstPast, passing, stopped}
 use Rattle.rules.specs.Settle.{Done, done, settle}
-use Rattle.rules.specs.Submit.{decided, finish, submitRead, submit}
+use Rattle.rules.specs.Submit.{decided, finish, submitReadBy, submitBy, submit}
 use Rattle.rules.specs.declared.Read.{Read}
 use Rattle.rules.proofs.Adds.{adds-none}
 use Rattle.rules.proofs.Bounded.{passing-none}
@@ -60,7 +60,7 @@ as-line row column adds = record { row = row; column = column; adds = adds }
 module _ {L : Ledger} {b : List ℕ} {d : Read} {row : ℕ} {adds : List ℕ} (found : Found L b d row adds) where
   -- what was decided is what the submission comes to
   pub comes-to : finish (d .number) (settle (d .submission) L) L ≡ submit L b
-  unfolding submit submitRead
+  unfolding submitBy submitReadBy
   comes-to = ap (λ (x : Read). finish (x .number) (settle (x .submission) L) L) (found .is)
 
   number-of : (n : ℕ) (x : Done) → finish n x L .number ≡ n

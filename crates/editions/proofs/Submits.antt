@@ -11,9 +11,9 @@ use borrow.Author.Tests.{ne-eqb}
 use Rattle.rules.specs.Ledger.{Ledger, Outcome, outcome, lengthsRight, Sized}
 use Rattle.rules.specs.Record.{wellFormed, readOf, nothing}
 use Rattle.rules.specs.Sound.{sound, Ready}
-use Rattle.rules.specs.Refusals.{first, refusals, entryRefusals, envelopeRefusals, operationRefusals}
+use Rattle.rules.specs.Refusals.{first, refusalsBy, entryRefusals, envelopeRefusals, operationRefusals}
 use Rattle.rules.specs.Settle.{Done, done, settle}
-use Rattle.rules.specs.Submit.{answerOf, decided, submitRead, submit}
+use Rattle.rules.specs.Submit.{answerBy, answerOf, decided, submitReadBy, submitBy, submit}
 use Rattle.rules.specs.declared.Read.{Read}
 use Rattle.rules.specs.declared.Submission.{Submission}
 use Rattle.rules.proofs.Calls.{by-answer, number-is}
@@ -32,22 +32,22 @@ as-read n s = record { number = n; submission = s }
 
 module _ (L : Ledger) (b : List ℕ) where
   pub bad-table : lengthsRight L ≡ false → outcome 1 0 L ≡ submit L b
-  unfolding submit submitRead answerOf refusals entryRefusals
+  unfolding submitBy submitReadBy answerBy refusalsBy entryRefusals
   bad-table e = rw e
 
   pub damaged : lengthsRight L ≡ true → sound L ≡ false → outcome 2 0 L ≡ submit L b
-  unfolding submit submitRead answerOf refusals entryRefusals
+  unfolding submitBy submitReadBy answerBy refusalsBy entryRefusals
   damaged e f = rw (e, f)
 
   -- right lengths, and sound: what the record's bytes are read as decides
   module _ (ready : Ready L) where
     answered-3 : readOf b .number ≡ 3 → answerOf L (readOf b) ≡ 3
-    unfolding answerOf refusals entryRefusals
+    unfolding answerBy refusalsBy entryRefusals
     answered-3 e = rw (ready .lengths, ready .sound, e)
 
     answered-later : eqb (readOf b .number) 3 ≡ false
         → answerOf L (readOf b) ≡ first (envelopeRefusals L (readOf b .submission) ++ operationRefusals L (readOf b .submission))
-    unfolding answerOf refusals entryRefusals
+    unfolding answerBy refusalsBy entryRefusals
     answered-later e = rw (ready .lengths, ready .sound, e)
 
     -- a record that is not read is answered by the number that it is read with

@@ -11,7 +11,7 @@ use Rattle.rules.specs.Limits.{FROM, TO, ESCROW-DEADLINE, ESCROW-STATE, IS-OPEN
 use Rattle.rules.specs.Table.{word}
 use Rattle.rules.specs.Ledger.{Ledger, ledgerOf, hasWallet, written, full}
 use Rattle.rules.specs.Wallets.{lookUp, isClosed}
-use Rattle.rules.specs.Refusals.{Refusal, row, first, operationRefusals}
+use Rattle.rules.specs.Refusals.{Refusal, row, first, operationRefusalsBy, operationRefusals}
 use Rattle.rules.specs.declared.Edition.{Edition}
 use Rattle.rules.specs.declared.Submission.{Submission}
 use Rattle.rules.specs.declared.WalletState.{WalletState}
@@ -30,7 +30,7 @@ ofClaim L s =
     ∷ termRefusals L s
 
 pub claim-rows : (L : Ledger) (s : Submission) → s .op ≡ CLAIM → first (operationRefusals L s) ≡ first (ofClaim L s)
-unfolding operationRefusals ofClaim termRefusals
+unfolding operationRefusalsBy ofClaim termRefusals
 claim-rows L s o = simp o
 
 -- ---- the terms

@@ -10,7 +10,7 @@ use lib.Dec.{eqb, leb}
 use Rattle.rules.specs.Limits.{JOURNAL-LEN, RELEASE, REFUND, ADMIN, ESCROWS, ENTRIES, FROM, ESCROW-DEADLINE, ESCROW-STATE, IS-OPEN}
 use Rattle.rules.specs.Table.{word}
 use Rattle.rules.specs.Ledger.{Ledger, ledgerOf, escrow, escrowCount, entryCount, written, full}
-use Rattle.rules.specs.Refusals.{Refusal, row, first, clear, ofEscrow, releasable, operationRefusals}
+use Rattle.rules.specs.Refusals.{Refusal, row, first, clear, ofEscrow, releasable, operationRefusalsBy, operationRefusals}
 use Rattle.rules.specs.declared.Edition.{Edition}
 use Rattle.rules.specs.declared.Submission.{Submission}
 use Rattle.holds.specs.Named.{named}
@@ -25,11 +25,11 @@ ofClosing L s =
     ∷ []
 
 pub release-rows : (L : Ledger) (s : Submission) → s .op ≡ RELEASE → first (operationRefusals L s) ≡ first (ofClosing L s)
-unfolding operationRefusals ofClosing
+unfolding operationRefusalsBy ofClosing
 release-rows L s o = simp (o, or-false)
 
 pub refund-rows : (L : Ledger) (s : Submission) → s .op ≡ REFUND → first (operationRefusals L s) ≡ first (ofClosing L s)
-unfolding operationRefusals ofClosing
+unfolding operationRefusalsBy ofClosing
 refund-rows L s o = simp (o, or-false)
 
 pub closing-by :

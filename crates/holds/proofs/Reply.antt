@@ -11,7 +11,7 @@ use Rattle.rules.specs.Limits.{RECEIPT-LEN, JOURNAL-LEN, ACCEPT, DISPUTE, REASO
 use Rattle.rules.specs.Limits.{REQUESTER, ACCEPTANCE-DEADLINE, RECEIPT-STATE, PENDING}
 use Rattle.rules.specs.Table.{word}
 use Rattle.rules.specs.Ledger.{Ledger, ledgerOf, receipt, receiptCount, entryCount, written, full}
-use Rattle.rules.specs.Refusals.{Refusal, row, first, clear, ofReceipt, operationRefusals}
+use Rattle.rules.specs.Refusals.{Refusal, row, first, clear, ofReceipt, operationRefusalsBy, operationRefusals}
 use Rattle.rules.specs.declared.Edition.{Edition}
 use Rattle.rules.specs.declared.Submission.{Submission}
 use Rattle.holds.specs.Named.{named}
@@ -28,11 +28,11 @@ ofReply L s =
     ∷ []
 
 pub accept-rows : (L : Ledger) (s : Submission) → s .op ≡ ACCEPT → first (operationRefusals L s) ≡ first (ofReply L s)
-unfolding operationRefusals ofReply
+unfolding operationRefusalsBy ofReply
 accept-rows L s o = simp o
 
 pub dispute-rows : (L : Ledger) (s : Submission) → s .op ≡ DISPUTE → first (operationRefusals L s) ≡ first (ofReply L s)
-unfolding operationRefusals ofReply
+unfolding operationRefusalsBy ofReply
 dispute-rows L s o = simp o
 
 pub reply-by :

@@ -10,7 +10,7 @@ use Rattle.rules.specs.Limits.{WALLET-LEN, JOURNAL-LEN, MAX-AMOUNT-MICRO, MAX-G
 use Rattle.rules.specs.Ledger.{Ledger, ledgerOf, head, walletCount, entryCount, hasWallet, full}
 use Rattle.rules.specs.Wallets.{lookUp, isClosed}
 use Rattle.rules.specs.Sound.{between}
-use Rattle.rules.specs.Refusals.{Refusal, row, first, operationRefusals}
+use Rattle.rules.specs.Refusals.{Refusal, row, first, operationRefusalsBy, operationRefusals}
 use Rattle.rules.specs.declared.Edition.{Edition}
 use Rattle.rules.specs.declared.Submission.{Submission}
 use Rattle.rules.specs.declared.WalletState.{WalletState}
@@ -28,7 +28,7 @@ ofGrant L s =
     ∷ []
 
 pub grant-rows : (L : Ledger) (s : Submission) → s .op ≡ GRANT → first (operationRefusals L s) ≡ first (ofGrant L s)
-unfolding operationRefusals ofGrant
+unfolding operationRefusalsBy ofGrant
 grant-rows L s o = simp (o, or-false)
 
 -- what the recipient's wallet decides: closed is 43; otherwise 36, and then whether there is room for its row, if it needs one

@@ -14,7 +14,7 @@ use Rattle.rules.specs.Table.{word}
 use Rattle.rules.specs.Ledger.{Ledger, ledgerOf, rowOf, walletCount, escrowCount, entryCount, hasWallet, walletOf, full}
 use Rattle.rules.specs.Wallets.{lookUp, isClosed}
 use Rattle.rules.specs.Sound.{between}
-use Rattle.rules.specs.Refusals.{Refusal, row, first, countedOf, counted, sender, operationRefusals}
+use Rattle.rules.specs.Refusals.{Refusal, row, first, countedOf, counted, sender, operationRefusalsBy, operationRefusals}
 use Rattle.rules.specs.declared.Edition.{Edition}
 use Rattle.rules.specs.declared.Submission.{Submission}
 use Rattle.rules.specs.declared.WalletState.{WalletState}
@@ -41,11 +41,11 @@ ofPaying L s =
     ∷ []
 
 pub transfer-rows : (L : Ledger) (s : Submission) → s .op ≡ TRANSFER → first (operationRefusals L s) ≡ first (ofPaying L s)
-unfolding operationRefusals ofPaying
+unfolding operationRefusalsBy ofPaying
 transfer-rows L s o = simp (o, or-false)
 
 pub open-rows : (L : Ledger) (s : Submission) → s .op ≡ OPEN → first (operationRefusals L s) ≡ first (ofPaying L s)
-unfolding operationRefusals ofPaying
+unfolding operationRefusalsBy ofPaying
 open-rows L s o = simp (o, or-false)
 
 -- ---- a live sender: its recipient, and its limits

@@ -10,7 +10,7 @@ use lib.ListN.{getD}
 use borrow.Author.Tests.{leb-true, ne-eqb}
 use Rattle.rules.specs.Limits.{GRANT, TRANSFER, OPEN, RELEASE, REFUND, CLAIM, DISPUTE, SWEEP, FREEZE, CAPS, CLOSE, LAST-OPERATION, LAST-TIME-MS}
 use Rattle.rules.specs.Table.{all, every}
-use Rattle.rules.specs.Record.{bit, usesOf, usedOrZero, wellFormed}
+use Rattle.rules.specs.Record.{bit, usesOf, usedOrZero, wellFormedBy, wellFormed}
 use Rattle.rules.specs.declared.Submission.{Submission}
 use Rattle.rules.proofs.Bools.{all-at, or-other, not-true-false}
 use Rattle.rules.proofs.Below.{below}
@@ -111,7 +111,7 @@ bit-free k flags used = go (bit k flags) (bit k used) (omega arith) (omega arith
     go (suc zero) (suc (suc u)) hb hu = absurd (omega arith)
 
 defined : (s : Submission) → leb 1 (s .op) && (leb (s .op) LAST-OPERATION && all (tableTests s)) ≡ wellFormed s
-unfolding wellFormed
+unfolding wellFormedBy
 defined s =
     let f = s .flags in
     let u = usesOf (s .op) .bits in

@@ -8,7 +8,7 @@ use lib.ListN.{getD, set, length, length-set}
 use lib.Seq.{sets}
 use borrow.Author.Tests.{eq-eqb, ne-eqb}
 use Rattle.rules.specs.Limits.{RECORD-BYTES, MARK-0, MARK-1}
-use Rattle.rules.specs.Record.{decode, encode, wordsOf, wordBytes, nothing, wellFormed, accepted, readOf, writeOf}
+use Rattle.rules.specs.Record.{decode, encode, wordsOf, wordBytes, nothing, wellFormed, acceptedBy, readBy, readOf, writeOf}
 use Rattle.rules.specs.declared.Submission.{Submission}
 use Rattle.rules.specs.declared.Read.{Read}
 use Rattle.rules.proofs.Rows.{sets-whole}
@@ -22,7 +22,7 @@ abbrev refused : Read
 refused = record { number = 3; submission = nothing }
 
 pub read-short : (b : List ℕ) (r : Read) → r ≡ refused → (length b ≡ RECORD-BYTES → ⊥) → r ≡ readOf b
-unfolding readOf accepted
+unfolding readBy acceptedBy
 read-short b r x n = rw (ne-eqb (length b) RECORD-BYTES n) x
 
 -- the code's tests of mark and form
@@ -31,7 +31,7 @@ Marked b w = eqb (getD b 0 0) MARK-0 && (eqb (getD b 1 0) MARK-1 && w)
 
 read-by : (b : List ℕ) (s : Submission) {w : Bool} → length b ≡ RECORD-BYTES → s ≡ decode b → w ≡ wellFormed s
     → cond (Marked b w) (record { number = 0; submission = s }) refused ≡ readOf b
-unfolding readOf accepted
+unfolding readBy acceptedBy
 read-by b s l x y = rw (eq-eqb (length b) RECORD-BYTES l, y, x)
 
 pub read-there : (b : List ℕ) (s : Submission) {w : Bool} → length b ≡ RECORD-BYTES → s ≡ decode b → w ≡ wellFormed s → Marked b w ≡ true

@@ -11,7 +11,7 @@ use Rattle.rules.specs.Table.{word}
 use Rattle.rules.specs.Ledger.{Ledger, ledgerOf, rowOf, entryCount, hasWallet, full}
 use Rattle.rules.specs.Wallets.{lookUp, isClosed, openTo}
 use Rattle.rules.specs.Sound.{between}
-use Rattle.rules.specs.Refusals.{Refusal, row, first, notEmpty, operationRefusals}
+use Rattle.rules.specs.Refusals.{Refusal, row, first, notEmpty, operationRefusalsBy, operationRefusals}
 use Rattle.rules.specs.declared.Edition.{Edition}
 use Rattle.rules.specs.declared.Submission.{Submission}
 use Rattle.rules.specs.declared.WalletNumber.{WalletNumber}
@@ -33,7 +33,7 @@ unfoldable pub ofSweep : Submission → List Refusal
 ofSweep s = row 12 (not (between 1 MAX-SWEEP-ROWS (s .amount))) ∷ []
 
 pub sweep-rows : (L : Ledger) (s : Submission) → s .op ≡ SWEEP → first (operationRefusals L s) ≡ first (ofSweep s)
-unfolding operationRefusals ofSweep
+unfolding operationRefusalsBy ofSweep
 sweep-rows L s o = simp (o, or-false)
 
 unfoldable pub ofFreeze : Ledger → Submission → List Refusal
@@ -44,7 +44,7 @@ ofFreeze L s =
     ∷ []
 
 pub freeze-rows : (L : Ledger) (s : Submission) → s .op ≡ FREEZE → first (operationRefusals L s) ≡ first (ofFreeze L s)
-unfolding operationRefusals ofFreeze
+unfolding operationRefusalsBy ofFreeze
 freeze-rows L s o = simp (o, or-false)
 
 unfoldable pub ofCaps : Ledger → Submission → List Refusal
@@ -56,7 +56,7 @@ ofCaps L s =
     ∷ []
 
 pub caps-rows : (L : Ledger) (s : Submission) → s .op ≡ CAPS → first (operationRefusals L s) ≡ first (ofCaps L s)
-unfolding operationRefusals ofCaps
+unfolding operationRefusalsBy ofCaps
 caps-rows L s o = simp o
 
 unfoldable pub ofClose : Ledger → Submission → List Refusal
@@ -68,7 +68,7 @@ ofClose L s =
     ∷ []
 
 pub close-rows : (L : Ledger) (s : Submission) → s .op ≡ CLOSE → first (operationRefusals L s) ≡ first (ofClose L s)
-unfolding operationRefusals ofClose
+unfolding operationRefusalsBy ofClose
 close-rows L s o = simp o
 
 pub sweep-by :

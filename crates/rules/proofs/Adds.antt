@@ -11,11 +11,11 @@ use lib.ListN.{getD}
 use lib.Dec.{eqb}
 use borrow.Author.Tests.{ne-eqb, eqb-false}
 use Rattle.rules.specs.Limits.{ESCROWS, ESCROW-AMOUNT, ESCROW-STATE, IS-OPEN, RELEASED, REFUNDED, EXPIRED, RECEIPT-LINK}
-use Rattle.rules.specs.Limits.{GRANT, TRANSFER, OPEN, RELEASE, REFUND, CLAIM, ACCEPT, DISPUTE, SWEEP, FREEZE, CAPS, CLOSE, LAST-OPERATION}
+use Rattle.rules.specs.Limits.{GRANT, TRANSFER, OPEN, RELEASE, REFUND, CLAIM, REPLY, OLD-DISPUTE, SWEEP, FREEZE, CAPS, CLOSE, LAST-OPERATION, ACCEPTS}
 use Rattle.rules.specs.Table.{word}
 use Rattle.rules.specs.Ledger.{Edition, Ledger, outcome, escrow, receipt, escrowCount, receiptCount, putHead, putWallet, putReceipt, newEscrow, newReceipt, newEntry}
-use Rattle.rules.specs.Refusals.{releasable}
-use Rattle.rules.specs.Settle.{raise, lower, ensureWallet, closeReceipt, acceptRow, swept, escrowOf, operations, idle, operate, enter, settle}
+use Rattle.rules.specs.Refusals.{releasable, clear}
+use Rattle.rules.specs.Settle.{raise, lower, ensureWallet, closeReceipt, acceptRow, swept, escrowOf, operations, idle, operateBy, operate, enter, settleBy, settle, reply}
 use Rattle.rules.specs.Settle.{grant, transfer, openEscrow, release, refund, claim, accept, dispute, sweep, freeze, caps, close}
 use Rattle.rules.specs.Report.{endedAs, addsOf}
 use Rattle.rules.specs.declared.Submission.{Submission}
@@ -42,7 +42,7 @@ figures granted transferred L M = granted ∷ transferred ∷ endedAs RELEASED L
 
 -- clock and journal leave the escrows
 settled-escrows : (st : ℕ) (s : Submission) (L : Ledger) → endedAs st L (settle s L .after) ≡ endedAs st L (operate s L .after)
-unfolding settle enter newEntry putHead
+unfolding settleBy enter newEntry putHead
 settled-escrows st s L =
     cond-case (λ (M : Ledger). endedAs st L M ≡ endedAs st L (operate s L .after)) (eqb (s .op) SWEEP) _ _
     (λ e. ended-beside st L (operate s L .after) _ refl refl) (λ e. ended-beside st L (operate s L .after) _ refl refl)
@@ -51,7 +51,7 @@ settled-escrows st s L =
 pub adds-by : (k w : ℕ) (s : Submission) (L : Ledger) → s .op ≡ k
     → addsOf L s (outcome 0 w (settle s L .after))
     ≡ figures (cond (eqb k GRANT) (s .amount) 0) (cond (eqb k TRANSFER) (s .amount) 0) L (getD operations (k - 1) idle s L .after)
-unfolding addsOf operate
+unfolding addsOf operateBy
 adds-by k w s L o =
     rw (settled-escrows RELEASED s L, settled-escrows REFUNDED s L, settled-escrows EXPIRED s L)
     (ap (λ (n : ℕ). figures (cond (eqb n GRANT) (s .amount) 0) (cond (eqb n TRANSFER) (s .amount) 0) L (getD operations (n - 1) idle s L .after)) o)
@@ -93,19 +93,18 @@ pub adds-transfer : (w : ℕ) (s : Submission) (L : Ledger) → s .op ≡ TRANSF
 unfolding transfer raise lower putWallet
 adds-transfer w s L o = sym (adds-by TRANSFER w s L o ∙ quiet 0 (s .amount) L (transfer s L .after) (quiet-made (s .target) L _ refl refl))
 
--- 3, 6, 8, 10, 11 and 12: what is none of the others
-pub adds-other : (w : ℕ) (s : Submission) (L : Ledger) → 8 ≤ L .edition .escrow → 1 ≤ s .op → s .op ≤ LAST-OPERATION
-    → (s .op ≡ GRANT → ⊥) → (s .op ≡ TRANSFER → ⊥) → (s .op ≡ RELEASE → ⊥) → (s .op ≡ REFUND → ⊥) → (s .op ≡ ACCEPT → ⊥) → (s .op ≡ SWEEP → ⊥)
+-- 3, 6, 10, 11 and 12: what is none of the others
+pub adds-other : (w : ℕ) (s : Submission) (L : Ledger) → 8 ≤ L .edition .escrow → 1 ≤ s .op → s .op ≤ LAST-OPERATION → s .op ≢ OLD-DISPUTE
+    → (s .op ≡ GRANT → ⊥) → (s .op ≡ TRANSFER → ⊥) → (s .op ≡ RELEASE → ⊥) → (s .op ≡ REFUND → ⊥) → (s .op ≡ REPLY → ⊥) → (s .op ≡ SWEEP → ⊥)
     → 0 ∷ 0 ∷ 0 ∷ 0 ∷ 0 ∷ [] ≡ addsOf L s (outcome 0 w (settle s L .after))
-unfolding claim dispute caps close closeReceipt putReceipt putWallet putHead newReceipt
-adds-other w s L wide low high n1 n2 n4 n5 n7 n9 =
-    by-op (λ (k : ℕ). s .op ≡ k → 0 ∷ 0 ∷ 0 ∷ 0 ∷ 0 ∷ [] ≡ addsOf L s (outcome 0 w (settle s L .after))) (s .op) low high
+unfolding claim caps close putWallet putHead newReceipt
+adds-other w s L wide low high not-8 n1 n2 n4 n5 n7 n9 =
+    by-op (λ (k : ℕ). s .op ≡ k → 0 ∷ 0 ∷ 0 ∷ 0 ∷ 0 ∷ [] ≡ addsOf L s (outcome 0 w (settle s L .after))) (s .op) low high not-8
     (λ e o. absurd (n1 o)) (λ e o. absurd (n2 o))
     (λ e o. sym (adds-by OPEN w s L o ∙ quiet 0 0 L (openEscrow s L .after) (quiet-open s L wide)))
     (λ e o. absurd (n4 o)) (λ e o. absurd (n5 o))
     (λ e o. sym (adds-by CLAIM w s L o ∙ quiet 0 0 L (claim s L .after) (λ st other. ended-same st L _ other refl refl)))
     (λ e o. absurd (n7 o))
-    (λ e o. sym (adds-by DISPUTE w s L o ∙ quiet 0 0 L (dispute s L .after) (λ st other. ended-same st L _ other refl refl)))
     (λ e o. absurd (n9 o))
     (λ e o. sym (adds-by FREEZE w s L o ∙ quiet 0 0 L (freeze s L .after) (quiet-freeze s L)))
     (λ e o. sym (adds-by CAPS w s L o ∙ quiet 0 0 L (caps s L .after) (λ st other. ended-same st L _ other refl refl)))
@@ -141,12 +140,18 @@ ended-if st true now signer i L other g l h =
     ended-end st RELEASED now signer (k - 1) L other g (link-row L g i l (eqb-false k 0 (not-true-false (eqb k 0) some-link)))
     (and-fst (eqb (escrow L (k - 1) ESCROW-STATE) IS-OPEN) _ fresh)
 
--- 7: the amount of the linked escrow, if it is open and not stale
-pub adds-accept : (w : ℕ) (s : Submission) (L : Ledger) → Good L → s .target - 1 < receiptCount L → s .op ≡ ACCEPT
+-- 7, a dispute: nothing
+pub adds-dispute : (w : ℕ) (s : Submission) (L : Ledger) → s .op ≡ REPLY → clear s ACCEPTS ≡ true
+    → 0 ∷ 0 ∷ 0 ∷ 0 ∷ 0 ∷ [] ≡ addsOf L s (outcome 0 w (settle s L .after))
+unfolding reply dispute closeReceipt putReceipt
+adds-dispute w s L o c = sym (adds-by REPLY w s L o ∙ rw c (quiet 0 0 L (dispute s L .after) (λ st other. ended-same st L _ other refl refl)))
+
+-- and an accept: the amount of the linked escrow, if it is open and not stale
+pub adds-accept : (w : ℕ) (s : Submission) (L : Ledger) → Good L → s .target - 1 < receiptCount L → s .op ≡ REPLY → clear s ACCEPTS ≡ false
     → 0 ∷ 0 ∷ cond (releases L (s .now) (s .target - 1)) (escrow L (receipt L (s .target - 1) RECEIPT-LINK - 1) ESCROW-AMOUNT) 0 ∷ 0 ∷ 0 ∷ []
     ≡ addsOf L s (outcome 0 w (settle s L .after))
-unfolding accept
-adds-accept w s L g l o = sym (adds-by ACCEPT w s L o ∙ rw (one RELEASED refl, one REFUNDED refl ∙ none b, one EXPIRED refl ∙ none b))
+unfolding reply accept
+adds-accept w s L g l o c = sym (adds-by REPLY w s L o ∙ rw (c, one RELEASED refl, one REFUNDED refl ∙ none b, one EXPIRED refl ∙ none b))
   where
     i : ℕ
     i = s .target - 1

@@ -3,20 +3,20 @@
 -- which changes neither, and so after the whole list.
 use mathlib.Core.Path.{_≡_, refl, sym, ap, _∙_, subst}
 use mathlib.Core.List.{List, [], _∷_}
-use mathlib.Core.Bool.{true, true≢false}
+use mathlib.Core.Bool.{Bool, true, false, cond, true≢false}
 use Prim.Native.Nat.{ℕ, _+_, _-_, _≤_, _<_}
 use native.Mathlib.Omega.{arith}
 use lib.ListN.{getD, length}
 use lib.Dec.{eqb}
 use borrow.Author.Tests.{ltb-false, eqb-true}
-use Rattle.rules.specs.Limits.{GRANTED, WALLETS, ESCROWS, RECEIPTS, ID, BALANCE, LOCKED, GRANT, TRANSFER, OPEN, RELEASE, REFUND, CLAIM, ACCEPT, DISPUTE, SWEEP}
-use Rattle.rules.specs.Ledger.{Ledger, Outcome, outcome, wallet, walletCount, rowOf, lengthsRight, setHeader, freshHeader, fresh}
+use Rattle.rules.specs.Limits.{GRANTED, WALLETS, ESCROWS, RECEIPTS, ID, BALANCE, LOCKED, GRANT, TRANSFER, OPEN, RELEASE, REFUND, CLAIM, REPLY, SWEEP, ACCEPTS}
+use Rattle.rules.specs.Ledger.{Ledger, Outcome, outcome, wallet, walletCount, rowOf, lengthsRight, setHeader, freshHeader, fresh, receiptCount}
 use Rattle.rules.specs.Record.{readOf}
 use Rattle.rules.specs.Sound.{credits}
-use Rattle.rules.specs.Refusals.{oneOf, paying, closing, replying}
-use Rattle.rules.specs.Settle.{operations, idle, operate, settle, openEscrow, claim}
+use Rattle.rules.specs.Refusals.{oneOf, paying, closing, replying, clear}
+use Rattle.rules.specs.Settle.{operations, idle, operateBy, operate, settleBy, openEscrow, claim, reply, accept, dispute, Done}
 use Rattle.rules.specs.Submit.{answerOf, submit}
-use Rattle.rules.specs.History.{Call, starts-afresh, submits, reads, writes, asks-status, finds-wallet, finds-escrow, finds-receipt, Said, saidOf, Event, begun, after, said, Book, blank, sayings, says-nothing, enters, hears, bookFrom, bookOf}
+use Rattle.rules.specs.History.{Call, starts-afresh, submits, reads, writes, asks-status, finds-wallet, finds-escrow, finds-receipt, Said, saidOf, Event, begun, after, said, Book, blank, sayings, says-nothing, enters, hears, bookFrom, bookOf, replies, disputes, accepts}
 use Rattle.rules.specs.Promises.{Lent, started, Adds-up, The-books}
 use Rattle.rules.specs.declared.Submission.{Submission}
 use Rattle.rules.specs.declared.Read.{Read}
@@ -44,9 +44,12 @@ making = GRANT ∷ TRANSFER ∷ OPEN ∷ []
 abbrev targeted : List ℕ
 targeted = GRANT ∷ TRANSFER ∷ OPEN ∷ CLAIM ∷ []
 
--- what is said of a settled submission whose operation is o
+-- what is said of a settled submission that did this, and of one whose operation is o
+abbrev told : Submission → Done → Said
+told s d = record { submission = s; number = 0; word = d .word }
+
 abbrev saidAt : ℕ → Submission → Ledger → Said
-saidAt o s L = record { submission = s; number = 0; word = getD operations (o - 1) idle s L .word }
+saidAt o s L = told s (getD operations (o - 1) idle s L)
 
 abbrev Together : Submission → Ledger → Book → ℕ → Type 0
 Together s L B o = Fits (getD operations (o - 1) idle s L .after) (getD sayings (o - 1) says-nothing (saidAt o s L) B)
@@ -68,12 +71,26 @@ module _ (L : Ledger) (r : Read) (B : Book) (lent : Lent L) (f : Fits L B) (z : 
   enough t =
       subst (λ (x : ℕ). s .amount ≤ x) (sym (bal-found (L .wallets) (walletCount L) (s .signer) BALANCE (sender-row L r z t))) (sender-has L r z t)
 
+  -- both sides go by bit 2
+  fits-reply : s .op ≡ REPLY → Together s L B REPLY
+  unfolding reply replies
+  fits-reply e = go (clear s ACCEPTS)
+    where
+      i< : s .target - 1 < receiptCount L
+      i< = receipt-row L r z (ap (oneOf replying) e)
+
+      go : (b : Bool)
+          → Fits (cond b (dispute s L) (accept s L) .after)
+          (cond b (disputes (told s (cond b (dispute s L) (accept s L))) B) (accepts (told s (cond b (dispute s L) (accept s L))) B))
+      go true = fits-dispute (told s (dispute s L)) L B g f i<
+      go false = fits-accepts (told s (accept s L)) L B g f i< (form .now-right) refl
+
   fits-operate :
       Fits (operate (r .submission) L .after)
       (getD sayings (r .submission .op - 1) says-nothing (record { submission = r .submission; number = 0; word = operate (r .submission) L .word }) B)
-  unfolding operate openEscrow claim
+  unfolding operateBy openEscrow claim
   fits-operate =
-      by-op (Together s L B) (s .op) (form .low) (form .high)
+      by-op (Together s L B) (s .op) (form .low) (form .high) (form .not-8)
       (λ e. fits-grant (saidAt GRANT s L) L B g f wide (some-target (ap (oneOf targeted) e)) (wallet-place L r z (ap (oneOf making) e)))
       (λ e.
       fits-transfer (saidAt TRANSFER s L) L B g f wide (some-target (ap (oneOf targeted) e)) (wallet-place L r z (ap (oneOf making) e))
@@ -84,8 +101,7 @@ module _ (L : Ledger) (r : Read) (B : Book) (lent : Lent L) (f : Fits L B) (z : 
       (λ e. fits-release (saidAt RELEASE s L) L B g f (escrow-row L r z (ap (oneOf closing) e)) (escrow-open L r z (ap (oneOf closing) e)))
       (λ e. fits-refund (saidAt REFUND s L) L B g f (escrow-row L r z (ap (oneOf closing) e)) (escrow-open L r z (ap (oneOf closing) e)))
       (λ e. fits-claim (saidAt CLAIM s L) L B f wide (receipt-place L r z (ap (oneOf (CLAIM ∷ [])) e)) refl)
-      (λ e. fits-accepts (saidAt ACCEPT s L) L B g f (receipt-row L r z (ap (oneOf replying) e)) (form .now-right) refl)
-      (λ e. fits-dispute (saidAt DISPUTE s L) L B g f (receipt-row L r z (ap (oneOf replying) e)))
+      fits-reply
       (λ e. fits-sweeps (saidAt SWEEP s L) L B g f (form .now-right))
       (λ e. fits-freeze s L B f)
       (λ e. fits-caps s L B f)
@@ -131,7 +147,7 @@ fits-begun L B lent = subst (λ (n : ℕ). Fits (started L) (hears (begun n) B))
 -- ---- one call, and a list of calls
 
 pub fits-call : (L : Ledger) (b : List ℕ) (B : Book) → Lent L → Fits L B → Fits (submit L b .left) (enters (saidOf b (submit L b)) B)
-unfolding enters settle
+unfolding enters settleBy
 fits-call L b B lent f =
     by-answer (λ (o : Outcome). Fits (o .left) (enters (saidOf b o) B)) L b
     (λ e.

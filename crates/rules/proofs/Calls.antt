@@ -8,17 +8,17 @@ use native.Mathlib.Omega.{arith}
 use lib.Dec.{eqb}
 use borrow.Author.Tests.{ne-eqb, leb-false}
 use Rattle.rules.specs.Limits.{JOURNAL-LEN}
-use Rattle.rules.specs.Limits.{GRANT, TRANSFER, OPEN, RELEASE, REFUND, CLAIM, ACCEPT, DISPUTE, SWEEP, FREEZE, CAPS, CLOSE, LAST-OPERATION}
+use Rattle.rules.specs.Limits.{GRANT, TRANSFER, OPEN, RELEASE, REFUND, CLAIM, REPLY, OLD-DISPUTE, SWEEP, FREEZE, CAPS, CLOSE, LAST-OPERATION, ACCEPTS}
 use Rattle.rules.specs.Table.{rowsIn, every}
 use Rattle.rules.specs.Ledger.{Ledger, Outcome, outcome, entryCount, full, lengthsRight}
 use Rattle.rules.specs.Record.{readOf}
 use Rattle.rules.specs.Sound.{sound}
-use Rattle.rules.specs.Refusals.{refusals, entryRefusals, envelopeRefusals, operationRefusals, oneOf, on, signed, seen}
-use Rattle.rules.specs.Settle.{Done, settle}
-use Rattle.rules.specs.Submit.{answerOf, finish, submitRead, submit}
+use Rattle.rules.specs.Refusals.{refusalsBy, entryRefusals, envelopeRefusals, operationRefusalsBy, oneOf, on, signed, clear, seen}
+use Rattle.rules.specs.Settle.{Done, accept, dispute, reply, settle}
+use Rattle.rules.specs.Submit.{answerOf, finish, submitReadBy, submitBy, submit}
 use Rattle.rules.specs.declared.Submission.{Submission}
 use Rattle.rules.specs.declared.Read.{Read}
-use Rattle.rules.proofs.Bools.{or-other, not-false-true}
+use Rattle.rules.proofs.Bools.{or-other, not-false-true, cond-case}
 use Rattle.rules.proofs.Counts.{every-at}
 use Rattle.rules.proofs.Formed.{Formed}
 use Rattle.rules.proofs.Refused.{passed}
@@ -29,7 +29,7 @@ use Rattle.rules.proofs.Refused.{passed}
 pub by-answer {κ} : (P : Outcome → Type κ) (L : Ledger) (b : List ℕ)
     → (answerOf L (readOf b) ≡ 0 → P (outcome 0 (settle (readOf b .submission) L .word) (settle (readOf b .submission) L .after)))
     → (answerOf L (readOf b) ≢ 0 → P (outcome (answerOf L (readOf b)) 0 L)) → P (submit L b)
-unfolding submit submitRead
+unfolding submitBy submitReadBy
 by-answer P L b f g = go (answerOf L (readOf b)) f g
   where
     d : Done
@@ -57,7 +57,7 @@ pub record Settled (L : Ledger) (r : Read) : Type 0 where
   pub place : oneOf signed (r .submission .op) && full JOURNAL-LEN (L .journal) (entryCount L) ≡ false
 
 pub settled : (L : Ledger) (r : Read) → answerOf L r ≡ 0 → Settled L r
-unfolding refusals entryRefusals envelopeRefusals operationRefusals
+unfolding refusalsBy entryRefusals envelopeRefusals operationRefusalsBy
 settled L r e = record {
   lengths = not-false-true (lengthsRight L) (passed L r e 1);
   is-sound = not-false-true (sound L) (passed L r e 2);
@@ -92,20 +92,26 @@ settled-signed L r e f ne =
     }
 
 -- a fact for each operation is a fact for the operation of a well-formed submission
-pub by-op {κ} : (Q : ℕ → Type κ) (o : ℕ) → 1 ≤ o → o ≤ LAST-OPERATION → (o ≡ GRANT → Q GRANT) → (o ≡ TRANSFER → Q TRANSFER) → (o ≡ OPEN → Q OPEN)
-    → (o ≡ RELEASE → Q RELEASE) → (o ≡ REFUND → Q REFUND) → (o ≡ CLAIM → Q CLAIM) → (o ≡ ACCEPT → Q ACCEPT) → (o ≡ DISPUTE → Q DISPUTE)
+pub by-op {κ} : (Q : ℕ → Type κ) (o : ℕ) → 1 ≤ o → o ≤ LAST-OPERATION → o ≢ OLD-DISPUTE → (o ≡ GRANT → Q GRANT) → (o ≡ TRANSFER → Q TRANSFER)
+    → (o ≡ OPEN → Q OPEN) → (o ≡ RELEASE → Q RELEASE) → (o ≡ REFUND → Q REFUND) → (o ≡ CLAIM → Q CLAIM) → (o ≡ REPLY → Q REPLY)
     → (o ≡ SWEEP → Q SWEEP) → (o ≡ FREEZE → Q FREEZE) → (o ≡ CAPS → Q CAPS) → (o ≡ CLOSE → Q CLOSE) → Q o
-by-op Q zero a b f1 f2 f3 f4 f5 f6 f7 f8 f9 f10 f11 f12 = absurd (omega arith)
-by-op Q (suc zero) a b f1 f2 f3 f4 f5 f6 f7 f8 f9 f10 f11 f12 = f1 refl
-by-op Q (suc (suc zero)) a b f1 f2 f3 f4 f5 f6 f7 f8 f9 f10 f11 f12 = f2 refl
-by-op Q (suc (suc (suc zero))) a b f1 f2 f3 f4 f5 f6 f7 f8 f9 f10 f11 f12 = f3 refl
-by-op Q (suc (suc (suc (suc zero)))) a b f1 f2 f3 f4 f5 f6 f7 f8 f9 f10 f11 f12 = f4 refl
-by-op Q (suc (suc (suc (suc (suc zero))))) a b f1 f2 f3 f4 f5 f6 f7 f8 f9 f10 f11 f12 = f5 refl
-by-op Q (suc (suc (suc (suc (suc (suc zero)))))) a b f1 f2 f3 f4 f5 f6 f7 f8 f9 f10 f11 f12 = f6 refl
-by-op Q (suc (suc (suc (suc (suc (suc (suc zero))))))) a b f1 f2 f3 f4 f5 f6 f7 f8 f9 f10 f11 f12 = f7 refl
-by-op Q (suc (suc (suc (suc (suc (suc (suc (suc zero)))))))) a b f1 f2 f3 f4 f5 f6 f7 f8 f9 f10 f11 f12 = f8 refl
-by-op Q (suc (suc (suc (suc (suc (suc (suc (suc (suc zero))))))))) a b f1 f2 f3 f4 f5 f6 f7 f8 f9 f10 f11 f12 = f9 refl
-by-op Q (suc (suc (suc (suc (suc (suc (suc (suc (suc (suc zero)))))))))) a b f1 f2 f3 f4 f5 f6 f7 f8 f9 f10 f11 f12 = f10 refl
-by-op Q (suc (suc (suc (suc (suc (suc (suc (suc (suc (suc (suc zero))))))))))) a b f1 f2 f3 f4 f5 f6 f7 f8 f9 f10 f11 f12 = f11 refl
-by-op Q (suc (suc (suc (suc (suc (suc (suc (suc (suc (suc (suc (suc zero)))))))))))) a b f1 f2 f3 f4 f5 f6 f7 f8 f9 f10 f11 f12 = f12 refl
-by-op Q (suc (suc (suc (suc (suc (suc (suc (suc (suc (suc (suc (suc (suc n))))))))))))) a b f1 f2 f3 f4 f5 f6 f7 f8 f9 f10 f11 f12 = absurd (omega arith)
+by-op Q zero a b ne f1 f2 f3 f4 f5 f6 f7 f9 f10 f11 f12 = absurd (omega arith)
+by-op Q (suc zero) a b ne f1 f2 f3 f4 f5 f6 f7 f9 f10 f11 f12 = f1 refl
+by-op Q (suc (suc zero)) a b ne f1 f2 f3 f4 f5 f6 f7 f9 f10 f11 f12 = f2 refl
+by-op Q (suc (suc (suc zero))) a b ne f1 f2 f3 f4 f5 f6 f7 f9 f10 f11 f12 = f3 refl
+by-op Q (suc (suc (suc (suc zero)))) a b ne f1 f2 f3 f4 f5 f6 f7 f9 f10 f11 f12 = f4 refl
+by-op Q (suc (suc (suc (suc (suc zero))))) a b ne f1 f2 f3 f4 f5 f6 f7 f9 f10 f11 f12 = f5 refl
+by-op Q (suc (suc (suc (suc (suc (suc zero)))))) a b ne f1 f2 f3 f4 f5 f6 f7 f9 f10 f11 f12 = f6 refl
+by-op Q (suc (suc (suc (suc (suc (suc (suc zero))))))) a b ne f1 f2 f3 f4 f5 f6 f7 f9 f10 f11 f12 = f7 refl
+by-op Q (suc (suc (suc (suc (suc (suc (suc (suc zero)))))))) a b ne f1 f2 f3 f4 f5 f6 f7 f9 f10 f11 f12 = absurd (ne refl)
+by-op Q (suc (suc (suc (suc (suc (suc (suc (suc (suc zero))))))))) a b ne f1 f2 f3 f4 f5 f6 f7 f9 f10 f11 f12 = f9 refl
+by-op Q (suc (suc (suc (suc (suc (suc (suc (suc (suc (suc zero)))))))))) a b ne f1 f2 f3 f4 f5 f6 f7 f9 f10 f11 f12 = f10 refl
+by-op Q (suc (suc (suc (suc (suc (suc (suc (suc (suc (suc (suc zero))))))))))) a b ne f1 f2 f3 f4 f5 f6 f7 f9 f10 f11 f12 = f11 refl
+by-op Q (suc (suc (suc (suc (suc (suc (suc (suc (suc (suc (suc (suc zero)))))))))))) a b ne f1 f2 f3 f4 f5 f6 f7 f9 f10 f11 f12 = f12 refl
+by-op Q (suc (suc (suc (suc (suc (suc (suc (suc (suc (suc (suc (suc (suc n))))))))))))) a b ne f1 f2 f3 f4 f5 f6 f7 f9 f10 f11 f12 = absurd (omega arith)
+
+-- what holds of a dispute and of an accept, each by its bit 2, holds of a reply
+pub by-reply {κ} : (P : Done → Type κ) (s : Submission) (L : Ledger) → (clear s ACCEPTS ≡ true → P (dispute s L)) → (clear s ACCEPTS ≡ false → P (accept s L))
+    → P (reply s L)
+unfolding reply
+by-reply P s L f g = cond-case P (clear s ACCEPTS) (dispute s L) (accept s L) f g

@@ -14,7 +14,7 @@ use Rattle.rules.specs.Table.{word, putRow, all, rowsIn}
 use Rattle.rules.specs.Ledger.{Ledger, entry, entryCount, putHead, newEntry}
 use Rattle.rules.specs.Record.{readOf}
 use Rattle.rules.specs.Refusals.{oneOf, paying, counts, countedOf, counted}
-use Rattle.rules.specs.Settle.{enter, settle}
+use Rattle.rules.specs.Settle.{enter, settleBy, settle}
 use Rattle.rules.specs.Cap.{Counts-opens, taken, Room-is-taken}
 use Rattle.rules.specs.declared.Submission.{Submission}
 use Rattle.rules.proofs.Bools.{and-none-fst, and-none-snd, cond-case}
@@ -94,7 +94,7 @@ module _ (s : Submission) (L : Ledger) (wide : ENTRIES < length (L .header)) whe
 
   counted-settled : (s .op ≢ SWEEP → entryCount L < rowsIn JOURNAL-LEN (L .journal)) → (signer now : ℕ)
       → counted (settle s L .after) signer now ≡ counted L signer now + taken s signer now
-  unfolding settle enter
+  unfolding settleBy enter
   counted-settled place signer now =
       cond-case (λ (K : Ledger). counted K signer now ≡ counted L signer now + taken s signer now) (eqb (s .op) SWEEP) (beforeEntry s L) _
       (λ e. omega (arith, counted-kept k signer now, sweep-takes-none s (eqb-true _ _ e) signer now))

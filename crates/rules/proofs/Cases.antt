@@ -7,12 +7,12 @@ use Prim.Native.Nat.{ℕ}
 use Rattle.rules.specs.Table.{sum, every, some, seek, loop}
 use Rattle.rules.specs.Ledger.{rowOf, putHead, putWallet, putEscrow, putReceipt, newWallet, newEscrow, newReceipt, newEntry, lengthsRight, fresh}
 use Rattle.rules.specs.Wallets.{openTo}
-use Rattle.rules.specs.Record.{usesOf, wellFormed, decode, encode, accepted, readOf}
+use Rattle.rules.specs.Record.{usesOf, wellFormedBy, decode, encode, acceptedBy, readBy}
 use Rattle.rules.specs.Sound.{heldIn, credits, sound}
-use Rattle.rules.specs.Refusals.{seenIn, seen, countedOf, counted, entryRefusals, envelopeRefusals, operationRefusals, refusals}
-use Rattle.rules.specs.Settle.{raise, lower, ensureWallet, endEscrow, closeReceipt, acceptRow, closeDueReceipt, closeDueEscrow, sweepReceipt, sweepEscrow, sweptReceipts, swept}
-use Rattle.rules.specs.Settle.{grant, transfer, openEscrow, release, refund, claim, accept, dispute, sweep, freeze, caps, close, operate, enter, settle}
-use Rattle.rules.specs.Submit.{answerOf, submitRead, submit}
+use Rattle.rules.specs.Refusals.{seenIn, seen, countedOf, counted, entryRefusals, envelopeRefusals, operationRefusalsBy, refusalsBy}
+use Rattle.rules.specs.Settle.{raise, lower, ensureWallet, endEscrow, closeReceipt, acceptRow, closeDueReceipt, closeDueEscrow, sweepReceipt, sweepEscrow, sweptReceipts, swept, reply}
+use Rattle.rules.specs.Settle.{grant, transfer, openEscrow, release, refund, claim, accept, dispute, sweep, freeze, caps, close, operateBy, enter, settleBy}
+use Rattle.rules.specs.Submit.{answerBy, submitReadBy, submitBy}
 use Rattle.rules.specs.Recording.{entryAt, entriesFrom}
 use Rattle.rules.specs.Replay.{through, compared, ended, replayOn, replay}
 use Rattle.rules.specs.Report.{endedAs, addsOf, tallied, passing, stopped, reported, reportOn, report}
@@ -27,7 +27,7 @@ Each [] = Unit {0}
 Each (c ∷ cs) = Goes (c .label) (c .trial) × Each cs
 
 each-goes : Each cases
-unfolding sum every some seek loop rowOf putHead putWallet putEscrow putReceipt newWallet newEscrow newReceipt newEntry lengthsRight fresh openTo usesOf wellFormed decode encode accepted readOf heldIn credits sound seenIn seen countedOf counted entryRefusals envelopeRefusals operationRefusals refusals raise lower ensureWallet endEscrow closeReceipt acceptRow closeDueReceipt closeDueEscrow sweepReceipt sweepEscrow sweptReceipts swept grant transfer openEscrow release refund claim accept dispute sweep freeze caps close operate enter settle answerOf submitRead submit entryAt entriesFrom through compared ended replayOn replay endedAs addsOf tallied passing stopped reported reportOn report
+unfolding sum every some seek loop rowOf putHead putWallet putEscrow putReceipt newWallet newEscrow newReceipt newEntry lengthsRight fresh openTo usesOf wellFormedBy decode encode acceptedBy readBy heldIn credits sound seenIn seen countedOf counted entryRefusals envelopeRefusals operationRefusalsBy refusalsBy raise lower ensureWallet endEscrow closeReceipt acceptRow closeDueReceipt closeDueEscrow sweepReceipt sweepEscrow sweptReceipts swept grant transfer openEscrow release refund claim accept dispute reply sweep freeze caps close operateBy enter settleBy answerBy submitReadBy submitBy entryAt entriesFrom through compared ended replayOn replay endedAs addsOf tallied passing stopped reported reportOn report
 each-goes = (refl, (refl, (refl, (refl, (refl, (refl, (refl, (refl, (refl, (refl, (refl, (refl, (refl, (refl, (refl, (refl, (refl, (refl, (refl, (refl, (refl, (refl, (refl, (refl, (refl, (refl, (refl, (refl, (refl, (refl, (refl, (refl, (refl, (refl, (refl, (refl, (refl, (refl, (refl, (refl, (refl, (refl, (refl, (refl, (refl, (refl, (refl, (refl, (refl, (refl, (refl, (refl, (refl, (refl, (refl, (refl, (refl, (refl, (refl, (refl, (refl, (refl, (refl, (refl, tt))))))))))))))))))))))))))))))))))))))))))))))))))))))))))))))))
 
 none-fails : (cs : List Case) → Each cs → failing cs ≡ []

@@ -16,9 +16,9 @@ use Rattle.rules.specs.Ledger.{Ledger, Outcome, wallet, walletCount, row
 use Rattle.rules.specs.Wallets.{numbered, lookUp, isClosed, lookedUp}
 use Rattle.rules.specs.Record.{readOf}
 use Rattle.rules.specs.Sound.{sound}
-use Rattle.rules.specs.Refusals.{refusals, entryRefusals, envelopeRefusals, operationRefusals, oneOf, on, signs, targets, notEmpty}
-use Rattle.rules.specs.Settle.{close, operate, enter, settle}
-use Rattle.rules.specs.Submit.{answerOf, submit}
+use Rattle.rules.specs.Refusals.{refusalsBy, refusals, entryRefusals, envelopeRefusals, operationRefusalsBy, oneOf, on, signs, targets, notEmpty}
+use Rattle.rules.specs.Settle.{close, operateBy, enter, settleBy, settle}
+use Rattle.rules.specs.Submit.{answerBy, answerOf, submit}
 use Rattle.rules.specs.History.{Call, starts-afresh, leaves, says, after, said, unbroken}
 use Rattle.rules.specs.Promises.{Lent, started, Refused}
 use Rattle.rules.specs.Closed.{Closed-signer-refused, Closed-target-refused, In-use, In-use-only, Close-closes, Closed-stays}
@@ -68,14 +68,14 @@ found-live L id h c =
 -- what is answered 42 has passed check 43, and not this one
 module _ (L : Ledger) (r : Read) (e : answerOf L r ≡ 42) where
   holds-42 : on (r .submission) (CLOSE ∷ []) (notEmpty L (r .submission .target)) ≡ true
-  unfolding answerOf refusals entryRefusals envelopeRefusals operationRefusals
+  unfolding answerBy refusalsBy entryRefusals envelopeRefusals operationRefusalsBy
   holds-42 = sym (or-false _) ∙ first-holds (refusals L r) 42 (omega arith) e
 
   is-close : r .submission .op ≡ CLOSE
   is-close = eqb-true (r .submission .op) CLOSE (sym (or-false _) ∙ and-fst (oneOf (CLOSE ∷ []) (r .submission .op)) _ holds-42)
 
   in-use : In-use L (r .submission)
-  unfolding answerOf refusals entryRefusals envelopeRefusals operationRefusals
+  unfolding answerBy refusalsBy entryRefusals envelopeRefusals operationRefusalsBy
   in-use =
       let s : Submission = r .submission in
       let used = and-snd (oneOf (CLOSE ∷ []) (s .op)) _ holds-42 in
@@ -91,11 +91,11 @@ in-use-only L b e = in-use L (readOf b) (sym (number-is L b) ∙ e)
 -- the wallets that it leaves: one word is set, and there are as many
 close-wallets : (s : Submission) (L : Ledger) → s .op ≡ CLOSE
     → settle s L .after .wallets ≡ put (L .wallets) WALLET-LEN (walletRow L (s .target)) FROZEN IS-CLOSED
-unfolding settle operate close enter newEntry putHead putWallet
+unfolding settleBy operateBy close enter newEntry putHead putWallet
 close-wallets s L e = rw e
 
 close-count : (s : Submission) (L : Ledger) → s .op ≡ CLOSE → walletCount (settle s L .after) ≡ walletCount L
-unfolding settle operate close enter newEntry putHead putWallet
+unfolding settleBy operateBy close enter newEntry putHead putWallet
 close-count s L e =
     let clock = set (L .header) CLOCK (s .now) in
     rw e (getD-set-other clock ENTRIES WALLETS (getD clock ENTRIES 0 + 1) 0 (omega arith) ∙ getD-set-other (L .header) CLOCK WALLETS (s .now) 0 (omega arith))

@@ -10,7 +10,7 @@ use lib.ListN.{getD, length, drop, length-drop}
 use lib.Seq.{take-all, drop-cons}
 use borrow.Author.Tests.{eq-eqb}
 use Rattle.rules.specs.Limits.{RECORD-BYTES, MARK-0, MARK-1}
-use Rattle.rules.specs.Record.{decode, encode, wordsOf, wordBytes, wellFormed, nothing, accepted, readOf, Written, writeOf}
+use Rattle.rules.specs.Record.{decode, encode, wordsOf, wordBytes, wellFormed, nothing, acceptedBy, accepted, readBy, readOf, Written, writeOf}
 use Rattle.rules.specs.Promises.{Fields, Bytes, Written-read, Read-written}
 use Rattle.rules.specs.declared.Submission.{Submission}
 use Rattle.rules.specs.declared.Read.{Read}
@@ -45,7 +45,7 @@ decoded s h = ap (ofWords (s .op) (s .flags)) (sums-are 8 (wordsOf s) h)
 
 -- every submission that is well-formed is read back equal from its bytes
 pub encoded-read : (s : Submission) → AllBelow (2 ^ 64) (wordsOf s) → wellFormed s ≡ true → readOf (encode s) ≡ record { number = 0; submission = s }
-unfolding readOf accepted encode
+unfolding readBy acceptedBy encode
 encoded-read s h w = rw (decoded s h, w)
 
 -- the words of a submission whose fields fit
@@ -82,7 +82,7 @@ encoded b y h m0 m1 =
 
 -- THE PROMISE: every accepted record, read and written back, is the same bytes
 pub read-written : Read-written
-unfolding readOf writeOf
+unfolding readBy writeOf
 read-written b out y e h = go (accepted b) refl e
   where
     read : Bool → Read

@@ -13,10 +13,10 @@ use borrow.Author.Tests.{ltb-true}
 use Rattle.rules.specs.Limits.{RECORD-BYTES, WALLETS, ESCROWS, RECEIPTS, WALLET-LEN, RECEIPT-LEN, MAX-WALLETS, MAX-ESCROWS, MAX-RECEIPTS, LAST-ANSWER}
 use Rattle.rules.specs.Table.{rowsIn}
 use Rattle.rules.specs.Ledger.{Edition, Ledger, Outcome, outcome, rowOf, written, lengthsRight, fresh, freshHeader, setHeader}
-use Rattle.rules.specs.Record.{wellFormed, encode, accepted, decode, readOf, nothing, Written, writeOf}
+use Rattle.rules.specs.Record.{wellFormed, encode, accepted, decode, readBy, readOf, nothing, Written, writeOf}
 use Rattle.rules.specs.Refusals.{refusals}
 use Rattle.rules.specs.Settle.{settle}
-use Rattle.rules.specs.Submit.{answerOf}
+use Rattle.rules.specs.Submit.{answerBy, answerOf}
 use Rattle.rules.specs.Lookup.{countRight, rowPlace, partAt, walletState}
 use Rattle.rules.specs.Wallets.{lookUp, standingOf}
 use Rattle.rules.specs.Promises.{started, IsFirst, On-the-list, Refusal-changes-nothing, Some-are-lent, Fresh-answers, Read-answers, Write-answers}
@@ -33,7 +33,7 @@ use Rattle.rules.proofs.Calls.{by-answer, number-is}
 -- ---- demand 1
 
 pub on-the-list : On-the-list
-unfolding answerOf
+unfolding answerBy
 on-the-list L b = subst (λ (n : ℕ). n ≤ LAST-ANSWER) (sym (number-is L b)) (first-most LAST-ANSWER (refusals L (readOf b)) (table-most L (readOf b)))
 
 pub refusal-changes-nothing : Refusal-changes-nothing
@@ -76,7 +76,7 @@ unfolding lengthsRight
 some-are-lent = record { lengths = refl; header = lit≤ tt; escrow = lit≤ tt }
 
 pub read-answers : Read-answers
-unfolding readOf
+unfolding readBy
 read-answers b =
     cond-case (λ (r : Read). (r .number ≡ 0) ⊎ ((r .number ≡ 3) × (r .submission ≡ nothing))) (accepted b)
     (record { number = 0; submission = decode b }) (record { number = 3; submission = nothing }) (λ e. inl refl) (λ e. inr (refl, refl))
@@ -125,14 +125,14 @@ part-answers e header t k = (
 -- ---- demand 2
 
 pub settles-exactly : Settles-exactly
-unfolding answerOf
+unfolding answerBy
 settles-exactly L b = (
   (λ e. none-of-zero (refusals L (readOf b)) (table-numbered L (readOf b)) (sym (number-is L b) ∙ e)),
   (λ e. number-is L b ∙ zero-of-none (refusals L (readOf b)) e),
 )
 
 pub first-refusal : First-refusal
-unfolding answerOf
+unfolding answerBy
 first-refusal L b ne =
     subst (λ (n : ℕ). IsFirst n (refusals L (readOf b))) (sym (number-is L b)) (first-of (refusals L (readOf b)) (λ e. ne (number-is L b ∙ e)))
 

@@ -18,7 +18,7 @@ use Rattle.rules.specs.Ledger.{Edition, Ledger, Outcome, head, escrow, e
 use Rattle.rules.specs.Record.{readOf}
 use Rattle.rules.specs.Sound.{Ready}
 use Rattle.rules.specs.Refusals.{oneOf, closing}
-use Rattle.rules.specs.Settle.{raise, lower, ensureWallet, endEscrow, escrowOf, operations, idle, operate, enter, settle}
+use Rattle.rules.specs.Settle.{raise, lower, ensureWallet, endEscrow, escrowOf, operations, idle, operateBy, operate, enter, settleBy, settle, Done}
 use Rattle.rules.specs.Settle.{grant, transfer, openEscrow, release, refund, claim, accept, dispute, sweep, freeze, caps, close}
 use Rattle.rules.specs.Submit.{answerOf, submit}
 use Rattle.rules.specs.Report.{settledOf, endedAs}
@@ -30,7 +30,7 @@ use Rattle.rules.proofs.Rows.{room, word-new}
 use Rattle.rules.proofs.Counts.{sum-both, sum-step}
 use Rattle.rules.proofs.Tests.{State, header-wide, sound-says}
 use Rattle.rules.proofs.Formed.{Formed, formed-says, read-formed}
-use Rattle.rules.proofs.Calls.{by-answer, settled, by-op}
+use Rattle.rules.proofs.Calls.{by-answer, settled, by-op, by-reply}
 use Rattle.rules.proofs.Passed.{escrow-open, escrow-place}
 use Rattle.rules.proofs.Ready.{ready-stays}
 use Rattle.rules.proofs.Onward.{Onward, onward-submit, Closes, closes-end, closes-receipt, closes-accept, closes-swept, Beside, made-beside}
@@ -187,16 +187,17 @@ module _ (L : Ledger) (r : Read) (z : answerOf L r ≡ 0) (form : Formed (r .sub
   adds-end t state = adds-closed (closes-end state _ _ _ L wide (escrow-open L r z t))
 
   adds-operate : Adds (settledOf GRANT s 0) (settledOf OPEN s 0) L (operate s L .after)
-  unfolding operate release refund accept dispute sweep caps close putWallet
+  unfolding operateBy release refund accept dispute sweep caps close putWallet
   adds-operate =
       by-op (λ (o : ℕ). Adds (cond (eqb o GRANT) (s .amount) 0) (cond (eqb o OPEN) (s .amount) 0) L (getD operations (o - 1) idle s L .after)) (s .op)
-      (form .low) (form .high) (λ e. adds-grant) (λ e. adds-transfer) adds-open (λ e. adds-end (ap (oneOf closing) e) _) (λ e. adds-end (ap (oneOf closing) e) _)
-      (λ e. adds-claim) (λ e. adds-closed (closes-accept _ _ _ L wide)) (λ e. adds-closed (closes-receipt _ _ _ _ L))
+      (form .low) (form .high) (form .not-8) (λ e. adds-grant) (λ e. adds-transfer) adds-open (λ e. adds-end (ap (oneOf closing) e) _) (λ e. adds-end (ap (oneOf closing) e) _)
+      (λ e. adds-claim)
+      (λ e. by-reply (λ (d : Done). Adds 0 0 L (d .after)) s L (λ h. adds-closed (closes-receipt _ _ _ _ L)) (λ h. adds-closed (closes-accept _ _ _ L wide)))
       (λ e. adds-closed (closes-swept _ L wide _)) (λ e. adds-freeze) (λ e. adds-nothing refl refl) (λ e. adds-nothing refl refl)
 
   -- the clock and the journal
   adds-settle : Adds (settledOf GRANT s 0) (settledOf OPEN s 0) L (settle s L .after)
-  unfolding settle enter newEntry putHead
+  unfolding settleBy enter newEntry putHead
   adds-settle =
       let done : Ledger = operate s L .after in
       let h : List ℕ = set (done .header) CLOCK (s .now) in

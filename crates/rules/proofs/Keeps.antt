@@ -10,15 +10,15 @@ use native.Mathlib.Omega.{arith}
 use lib.ListN.{getD, set, length, length-set}
 use lib.Seq.{getD-set-same, getD-set-other, set-out}
 use lib.Dec.{eqb, ltb}
-use Rattle.rules.specs.Limits.{WALLET-LEN, RECEIPT-LEN, EDITION, SYSTEM-FROZEN, CLOCK, GRANTED, WALLETS, ESCROWS, RECEIPTS, ENTRIES}
+use Rattle.rules.specs.Limits.{WALLET-LEN, RECEIPT-LEN, EDITION, SYSTEM-FROZEN, CLOCK, GRANTED, WALLETS, ESCROWS, RECEIPTS, ENTRIES, ACCEPTS}
 use Rattle.rules.specs.Limits.{RECEIPT-LINK, AUTO-ACCEPT, AUTO-OR-FREEZE, ACCEPTED, RELEASED, FROZEN}
 use Rattle.rules.specs.Table.{loop}
 use Rattle.rules.specs.Ledger.{Ledger, head, receipt, entryCount, receiptCount, escrowCount, walletRow, hasWallet, setWallets, setEscrows, setReceipts}
 use Rattle.rules.specs.Ledger.{putHead, putWallet, putEscrow, putReceipt, newWallet, newEscrow, newReceipt}
 use Rattle.rules.specs.Record.{bit}
-use Rattle.rules.specs.Refusals.{releasable}
-use Rattle.rules.specs.Settle.{Done, Sweep, sweepStart, sweptReceipts, swept, dueReceipt, dueEscrow, raise, lower, ensureWallet, endEscrow, closeReceipt, acceptRow}
-use Rattle.rules.specs.Settle.{closeDueReceipt, closeDueEscrow, sweepReceipt, sweepEscrow, operations, idle, operate}
+use Rattle.rules.specs.Refusals.{releasable, clear}
+use Rattle.rules.specs.Settle.{Done, Sweep, sweepStart, sweptReceipts, swept, dueReceipt, dueEscrow, raise, lower, ensureWallet, endEscrow, closeReceipt, acceptRow, reply}
+use Rattle.rules.specs.Settle.{closeDueReceipt, closeDueEscrow, sweepReceipt, sweepEscrow, operations, idle, operateBy, operate}
 use Rattle.rules.specs.Settle.{grant, transfer, openEscrow, release, refund, claim, accept, dispute, sweep, freeze, caps, close}
 use Rattle.rules.specs.Promises.{Same-lengths}
 use Rattle.rules.specs.declared.Submission.{Submission}
@@ -217,7 +217,7 @@ kept-at (f ∷ fs) a zero = a .0
 kept-at (f ∷ fs) a (suc k) = kept-at fs (a .1) k
 
 all-kept : AllKept operations
-unfolding grant transfer openEscrow release refund claim accept dispute sweep freeze caps close
+unfolding grant transfer openEscrow release refund claim accept dispute reply sweep freeze caps close
 all-kept = (
   (λ s L. then (then (keeps-ensure _ L) (keeps-raise _ _ _ _)) (keeps-head GRANTED _ _ (omega arith) (omega arith) (λ e. absurd (omega arith)))),
   (
@@ -231,9 +231,9 @@ all-kept = (
           (
             (λ s L. keeps-newReceipt _ L),
             (
-              (λ s L. keeps-accept _ _ _ L),
+              (λ s L. cond-case (λ (d : Done). Keeps L (d .after)) (clear s ACCEPTS) _ _ (λ e. keeps-close _ _ _ _ L) (λ e. keeps-accept _ _ _ L)),
               (
-                (λ s L. keeps-close _ _ _ _ L),
+                (λ s L. same L),
                 (
                   (λ s L. keeps-swept _ _ L),
                   (
@@ -259,7 +259,7 @@ all-kept = (
 )
 
 pub keeps-operate : (s : Submission) (L : Ledger) → Keeps L (operate s L .after)
-unfolding operate
+unfolding operateBy
 keeps-operate s L = kept-at operations all-kept (s .op - 1) s L
 
 -- everything but the journal row is done

@@ -9,8 +9,8 @@ use borrow.Author.Tests.{eqb-true, ltb-true}
 use Rattle.rules.specs.Limits.{ACCEPTANCE-DEADLINE, PENDING}
 use Rattle.rules.specs.Ledger.{Ledger, receipt, receiptCount, written}
 use Rattle.rules.specs.Record.{readOf}
-use Rattle.rules.specs.Refusals.{refusals, entryRefusals, envelopeRefusals, operationRefusals, oneOf, replying, ofReceipt}
-use Rattle.rules.specs.Submit.{answerOf}
+use Rattle.rules.specs.Refusals.{refusalsBy, refusals, entryRefusals, envelopeRefusals, operationRefusalsBy, oneOf, replying, ofReceipt}
+use Rattle.rules.specs.Submit.{answerBy, answerOf}
 use Rattle.rules.specs.Window.{Late-replies-refused, Late, Late-only}
 use Rattle.rules.specs.declared.Submission.{Submission}
 use Rattle.rules.specs.declared.Read.{Read}
@@ -30,7 +30,7 @@ module _ (L : Ledger) (r : Read) (e : answerOf L r ≡ 41) where
   s = r .submission
 
   holds-41 : oneOf replying (s .op) && ofReceipt L (s .target) (ltb (receipt L (s .target - 1) ACCEPTANCE-DEADLINE) (s .now)) ≡ true
-  unfolding answerOf refusals entryRefusals envelopeRefusals operationRefusals
+  unfolding answerBy refusalsBy entryRefusals envelopeRefusals operationRefusalsBy
   holds-41 = sym (or-false _) ∙ first-holds (refusals L r) 41 (omega arith) e
 
   is-reply : oneOf replying (s .op) ≡ true
@@ -40,7 +40,7 @@ module _ (L : Ledger) (r : Read) (e : answerOf L r ≡ 41) where
   is-there = and-fst (written (receiptCount L) (s .target)) _ (and-snd (oneOf replying (s .op)) _ holds-41)
 
   late-so : Late L (r .submission)
-  unfolding answerOf refusals entryRefusals envelopeRefusals operationRefusals
+  unfolding answerBy refusalsBy entryRefusals envelopeRefusals operationRefusalsBy
   late-so = record {
     reply = is-reply;
     there = is-there;

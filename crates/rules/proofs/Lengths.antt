@@ -11,7 +11,7 @@ use Rattle.rules.specs.Limits.{HEADER-LEN, ESCROW-LEN, WALLET-LEN, RECEI
 use Rattle.rules.specs.Table.{all}
 use Rattle.rules.specs.Ledger.{Edition, Ledger, Outcome, outcome, entryCount, setHeader, putHead, newEntry, lengthsRight, freshHeader, fresh}
 use Rattle.rules.specs.Record.{readOf}
-use Rattle.rules.specs.Settle.{enter, settle}
+use Rattle.rules.specs.Settle.{enter, settleBy, settle}
 use Rattle.rules.specs.Submit.{submit}
 use Rattle.rules.specs.History.{Call, starts-afresh, submits, reads, writes, asks-status, finds-wallet, finds-escrow, finds-receipt, leaves}
 use Rattle.rules.specs.Promises.{Lent, started, Same-lengths, Lengths-stay}
@@ -34,7 +34,7 @@ lengths-entry vs L = record {
 }
 
 pub lengths-settle : (s : Submission) (L : Ledger) → Same-lengths (settle s L .after) L
-unfolding settle enter
+unfolding settleBy enter
 lengths-settle s L =
     let k : Same-lengths (beforeEntry s L) L = keeps-before s L .lengths in
     cond-case (λ (K : Ledger). Same-lengths K L) (eqb (s .op) SWEEP) (beforeEntry s L) _ (λ e. k) (λ e. lengths-then k (lengths-entry _ (beforeEntry s L)))

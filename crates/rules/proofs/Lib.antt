@@ -75,6 +75,7 @@ pub mod Fits
 pub mod Heard
 pub mod Replays
 pub mod Reports
+pub mod Convert
 pub mod Results
 pub mod Runs
 pub mod Recorded

@@ -19,7 +19,7 @@ use Rattle.rules.specs.Record.{readOf}
 use Rattle.rules.specs.Sound.{Ready}
 use Rattle.rules.specs.Refusals.{releasable, oneOf, closing}
 use Rattle.rules.specs.Settle.{Done, Sweep, sweepStart, sweptReceipts, swept, dueReceipt, dueEscrow, raise, lower, ensureWallet, endEscrow, closeReceipt, acceptRow}
-use Rattle.rules.specs.Settle.{closeDueReceipt, closeDueEscrow, sweepReceipt, sweepEscrow, escrowOf, operations, idle, operate, enter, settle}
+use Rattle.rules.specs.Settle.{closeDueReceipt, closeDueEscrow, sweepReceipt, sweepEscrow, escrowOf, operations, idle, operateBy, operate, enter, settleBy, settle}
 use Rattle.rules.specs.Settle.{grant, transfer, openEscrow, release, refund, claim, accept, dispute, sweep, freeze, caps, close}
 use Rattle.rules.specs.Submit.{answerOf, submit}
 use Rattle.rules.specs.declared.Submission.{Submission}
@@ -29,7 +29,7 @@ use Rattle.rules.proofs.Rows.{word-old}
 use Rattle.rules.proofs.Moves.{shut-col, shut-row}
 use Rattle.rules.proofs.Formed.{Formed, formed-says, read-formed}
 use Rattle.rules.proofs.Stays.{loop-keeps}
-use Rattle.rules.proofs.Calls.{by-left, settled, by-op}
+use Rattle.rules.proofs.Calls.{by-left, settled, by-op, by-reply}
 use Rattle.rules.proofs.Passed.{escrow-open}
 
 -- of the escrows written in L, none has another amount in M, and one that is not open stays in its state
@@ -202,15 +202,16 @@ module _ (L : Ledger) (r : Read) (z : answerOf L r ≡ 0) (form : Formed (r .sub
   onward-freeze = cond-case (Onward L) (eqb (s .target) 0) _ _ (λ e. onward-tables refl refl) (λ e. onward-tables refl refl)
 
   pub onward-operate : Onward L (operate s L .after)
-  unfolding operate grant transfer release refund claim accept dispute sweep caps close raise lower putWallet putHead newReceipt
+  unfolding operateBy grant transfer release refund claim accept dispute sweep caps close raise lower putWallet putHead newReceipt
   onward-operate =
-      by-op (λ (o : ℕ). Onward L (getD operations (o - 1) idle s L .after)) (s .op) (form .low) (form .high) (λ e. onward-made _ refl refl)
+      by-op (λ (o : ℕ). Onward L (getD operations (o - 1) idle s L .after)) (s .op) (form .low) (form .high) (form .not-8) (λ e. onward-made _ refl refl)
       (λ e. onward-made _ refl refl) (λ e. onward-open s L wide) (λ e. onward-ended _ (ap (oneOf closing) e)) (λ e. onward-ended _ (ap (oneOf closing) e))
-      (λ e. onward-tables refl refl) (λ e. closes-accept _ _ _ L wide .onward) (λ e. closes-receipt _ _ _ _ L .onward) (λ e. closes-swept _ L wide _ .onward)
+      (λ e. onward-tables refl refl) (λ e. by-reply (λ (d : Done). Onward L (d .after)) s L (λ h. closes-receipt _ _ _ _ L .onward) (λ h. closes-accept _ _ _ L wide .onward))
+      (λ e. closes-swept _ L wide _ .onward)
       (λ e. onward-freeze) (λ e. onward-tables refl refl) (λ e. onward-tables refl refl)
 
   pub onward-settle : Onward L (settle s L .after)
-  unfolding settle enter newEntry putHead
+  unfolding settleBy enter newEntry putHead
   onward-settle =
       let a = onward-operate in
       cond-case (Onward L) (eqb (s .op) SWEEP) _ _ (λ e. onward-beside {K = operate s L .after} refl refl a) (λ e. onward-beside {K = operate s L .after} refl refl a)

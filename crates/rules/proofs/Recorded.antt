@@ -11,7 +11,7 @@ use lib.Dec.{eqb}
 use borrow.Author.Tests.{eqb-true, eqb-false, ne-eqb}
 use Rattle.rules.specs.Limits.{RECORD-BYTES, ALL-AGREE}
 use Rattle.rules.specs.Ledger.{Edition, Ledger, fresh}
-use Rattle.rules.specs.Record.{accepted, readOf}
+use Rattle.rules.specs.Record.{acceptedBy, readBy, readOf}
 use Rattle.rules.specs.Submit.{submit}
 use Rattle.rules.specs.Recording.{Entry, asEntry, recordsOf, recordingOf}
 use Rattle.rules.specs.Replay.{Gone, gone, told, replay, recordedFrom, ledgerAfter, verdict, answer}
@@ -39,7 +39,7 @@ record As-recorded (L : Ledger) (es : List Entry) (last : Ledger) : Type 0 where
 
 -- bytes of another length are no record, and change nothing
 other-length : (L : Ledger) (b : List ℕ) → length b ≢ RECORD-BYTES → submit L b .left ≡ L
-unfolding readOf accepted
+unfolding readBy acceptedBy
 other-length L b h = refusal-changes-nothing L b (λ z. true≢false (sym malformed ∙ settled L (readOf b) (sym (number-is L b) ∙ z) .formed)) .left
   where
     malformed : eqb (readOf b .number) 3 ≡ true

@@ -12,8 +12,8 @@ use lib.Dec.{eqb, ltb, leb}
 use borrow.Author.Tests.{ltb-true, leb-true, eq-eqb, eqb-false}
 use Rattle.rules.specs.Limits.{LAST-ANSWER}
 use Rattle.rules.specs.Ledger.{Ledger}
-use Rattle.rules.specs.Refusals.{Refusal, row, first, refusals, entryRefusals, envelopeRefusals, operationRefusals}
-use Rattle.rules.specs.Submit.{answerOf}
+use Rattle.rules.specs.Refusals.{Refusal, row, first, refusalsBy, refusals, entryRefusals, envelopeRefusals, operationRefusalsBy, operationRefusals}
+use Rattle.rules.specs.Submit.{answerBy, answerOf}
 use Rattle.rules.specs.Promises.{none, IsFirst}
 use Rattle.rules.specs.declared.Read.{Read}
 use Rattle.rules.proofs.Bools.{and-intro, and-fst, and-snd, or-fst, or-snd, or-other, not-true-false, cond-case}
@@ -141,20 +141,20 @@ first-passed (r ∷ rs) m n ne e before = go (r .holds) refl (first-passed rs m 
 -- ---- THE TABLE
 
 pub table-numbered : (L : Ledger) (r : Read) → numbered (refusals L r) ≡ true
-unfolding refusals entryRefusals envelopeRefusals operationRefusals
+unfolding refusalsBy entryRefusals envelopeRefusals operationRefusalsBy
 table-numbered L r = refl
 
 pub table-most : (L : Ledger) (r : Read) → atMost LAST-ANSWER (refusals L r) ≡ true
-unfolding refusals entryRefusals envelopeRefusals operationRefusals
+unfolding refusalsBy entryRefusals envelopeRefusals operationRefusalsBy
 table-most L r = refl
 
 -- answered 0: the row of no number holds
 pub passed : (L : Ledger) (r : Read) → answerOf L r ≡ 0 → (n : ℕ) → holdsOf (refusals L r) n ≡ false
-unfolding answerOf
+unfolding answerBy
 passed L r e n = none-by-number (refusals L r) (none-of-zero (refusals L r) (table-numbered L r) e) n
 
 -- where the tables and the record are right, the envelope and the operation give the answer
 pub entry-pass : (L : Ledger) (r : Read) → first (entryRefusals L r) ≡ 0
     → answerOf L r ≡ first (envelopeRefusals L (r .submission) ++ operationRefusals L (r .submission))
-unfolding answerOf refusals
+unfolding answerBy refusalsBy
 entry-pass L r h = first-pass (entryRefusals L r) (envelopeRefusals L (r .submission) ++ operationRefusals L (r .submission)) (unfold entryRefusals in refl) h

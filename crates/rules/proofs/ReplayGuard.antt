@@ -16,7 +16,7 @@ use Rattle.rules.specs.Table.{word, some, rowsIn}
 use Rattle.rules.specs.Ledger.{Edition, Ledger, entry, entryCount, putHead, newEntry, fresh}
 use Rattle.rules.specs.Record.{readOf}
 use Rattle.rules.specs.Refusals.{seenIn, seen}
-use Rattle.rules.specs.Settle.{enter, settle}
+use Rattle.rules.specs.Settle.{enter, settleBy, settle}
 use Rattle.rules.specs.Submit.{answerOf, submit}
 use Rattle.rules.specs.History.{Call, starts-afresh, Event, submitted, begun, leaves, says, after, said, unbroken}
 use Rattle.rules.specs.Promises.{started, Replay-guard}
@@ -67,14 +67,14 @@ module _ (s : Submission) (L : Ledger) (wide : ENTRIES < length (L .header)) whe
   wide-before = omega (arith, k .lengths .header)
 
   seen-stays : (g n : ℕ) → seen L g n ≡ true → seen (settle s L .after) g n ≡ true
-  unfolding settle enter
+  unfolding settleBy enter
   seen-stays g n h =
       let h′ : seen (beforeEntry s L) g n ≡ true = sym (seen-kept k g n) ∙ h in
       cond-case (λ (K : Ledger). seen K g n ≡ true) (eqb (s .op) SWEEP) (beforeEntry s L) _ (λ e. h′)
       (λ e. seen-old (beforeEntry s L) _ wide-before g n h′)
 
   seen-itself : s .op ≢ SWEEP → entryCount L < rowsIn JOURNAL-LEN (L .journal) → seen (settle s L .after) (s .signer) (s .nonce) ≡ true
-  unfolding settle enter
+  unfolding settleBy enter
   seen-itself ne place =
       cond-case (λ (K : Ledger). seen K (s .signer) (s .nonce) ≡ true) (eqb (s .op) SWEEP) (beforeEntry s L) _ (λ e. absurd (ne (eqb-true _ _ e)))
       (λ e. seen-new (beforeEntry s L) _ wide-before refl

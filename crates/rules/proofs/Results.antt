@@ -14,9 +14,10 @@ use Rattle.rules.specs.Replay.{Gone}
 use Rattle.rules.specs.Report.{Reported}
 use Rattle.rules.specs.Status.{statuses}
 use Rattle.rules.specs.Promises.{IsFirst, Refused, Stands}
-use Rattle.rules.specs.Results.{Pair, Looked, wallet-standing, escrow-place, escrow-row, receipt-place, receipt-row, Result, by-fresh, by-submit, by-replay, by-report, by-lookup, by-read, by-write, by-status, Finds-as, Meets, Part-of, Finding, Listed, Decided, DecidedBy}
+use Rattle.rules.specs.Results.{Pair, Looked, wallet-standing, escrow-place, escrow-row, receipt-place, receipt-row, Result, by-fresh, by-submit, by-replay, by-report, by-lookup, by-read, by-write, by-status, by-convert, Finds-as, Meets, Part-of, Finding, Listed, Decided, DecidedBy}
 use Rattle.rules.specs.declared.Read.{Read}
 use Rattle.rules.specs.declared.Verdict.{Verdict}
+use Rattle.rules.proofs.Convert.{length-converted}
 use Rattle.rules.proofs.Places.{place-within}
 use Rattle.rules.proofs.Demand12.{on-the-list, refusal-changes-nothing, fresh-case, read-answers, write-answers, part-answers, settles-exactly, first-refusal, laid-down}
 use Rattle.rules.proofs.Replays.{replays}
@@ -89,6 +90,7 @@ listed e (by-read bytes answer) m =
 listed e (by-write s out left number) m =
     subst (λ (w : Written). (w .number ≡ 0) ⊎ ((w .number ≡ 3) × (w .out ≡ out))) (sym m) (write-answers s out)
 listed e (by-status number status) m = λ l. m ∙ List·getD-eq-default statuses 500 l
+listed e (by-convert recording left) m = ap length m ∙ length-converted recording
 
 pub decided-by : (e : Edition) (r : Result) → Meets e r → DecidedBy r
 decided-by e (by-fresh lent left number) m = tt
@@ -99,3 +101,4 @@ decided-by e (by-lookup lent left looked) m = tt
 decided-by e (by-read bytes answer) m = tt
 decided-by e (by-write s out left number) m = tt
 decided-by e (by-status number status) m = tt
+decided-by e (by-convert recording left) m = tt

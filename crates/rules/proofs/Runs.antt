@@ -14,7 +14,7 @@ use Rattle.rules.specs.Replay.{Gone, told, replay}
 use Rattle.rules.specs.Report.{Report, hasNamed, Reported, telling, report}
 use Rattle.rules.specs.History.{Call, starts-afresh, submits, Event, Said, saidOf, submitted, begun, after, said}
 use Rattle.rules.specs.Promises.{Lent, started, Adds-up}
-use Rattle.rules.specs.Results.{Pair, Looked, wallet-standing, escrow-place, escrow-row, receipt-place, receipt-row, Result, by-fresh, by-submit, by-replay, by-report, by-lookup, by-read, by-write, by-status, Meets}
+use Rattle.rules.specs.Results.{Pair, Looked, wallet-standing, escrow-place, escrow-row, receipt-place, receipt-row, Result, by-fresh, by-submit, by-replay, by-report, by-lookup, by-read, by-write, by-status, by-convert, Meets}
 use Rattle.rules.specs.Runs.{asked, setAsked, LentOf, leftBy, readIn, events, submittedBy, heardOf, Surface, Run, lastOf, heardBy, submittedIn, Calls-are-listed, Calls-decide, Runs-add-up, Runs-refuse-retries, Retries-change-nothing}
 use Rattle.rules.specs.declared.Verdict.{Verdict}
 use Rattle.rules.proofs.Bools.{cond-case}
@@ -39,6 +39,7 @@ callsOf (by-lookup lent left looked) = []
 callsOf (by-read bytes answer) = []
 callsOf (by-write s out left number) = []
 callsOf (by-status number status) = []
+callsOf (by-convert recording left) = []
 
 -- what a call did by the definitions: it left what they leave, what was heard of it is what they say, and what was submitted in it was answered
 -- as they answer it
@@ -88,6 +89,7 @@ did-as e (by-lookup lent left looked) L m l = record { left = same-ledger L look
 did-as e (by-read bytes answer) L m l = record { left = refl; heard = refl; answered = refl }
 did-as e (by-write s out left number) L m l = record { left = refl; heard = refl; answered = refl }
 did-as e (by-status number status) L m l = record { left = refl; heard = refl; answered = refl }
+did-as e (by-convert recording left) L m l = record { left = refl; heard = refl; answered = refl }
 
 -- ---- the edition
 
@@ -101,6 +103,7 @@ edition-of e (by-lookup lent left looked) L m l = inr (refl, ap (λ (K : Ledger)
 edition-of e (by-read bytes answer) L m l = inr (refl, refl)
 edition-of e (by-write s out left number) L m l = inr (refl, refl)
 edition-of e (by-status number status) L m l = inr (refl, refl)
+edition-of e (by-convert recording left) L m l = inr (refl, refl)
 
 -- a call of which one submission is heard leaves the ledger if that is refused
 refused-leaves : (e : Edition) (r : Result) (L : Ledger) (f : Said) → Meets e r → LentOf r L → heardOf r ≡ (submitted f ∷ []) → f .number ≢ 0 → leftBy r L ≡ L
@@ -116,6 +119,7 @@ refused-leaves e (by-lookup lent left looked) L f m l x n = same-ledger L looked
 refused-leaves e (by-read bytes answer) L f m l x n = refl
 refused-leaves e (by-write s out left number) L f m l x n = refl
 refused-leaves e (by-status number status) L f m l x n = refl
+refused-leaves e (by-convert recording left) L f m l x n = refl
 
 -- the book begins with the start
 begun-adds-up : (L : Ledger) (es : List Event) → Adds-up L es → Adds-up L (begun 0 ∷ es)

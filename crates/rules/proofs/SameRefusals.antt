@@ -11,8 +11,8 @@ use Rattle.rules.specs.Limits.{SIGNER, NONCE, OPERATION, ENTRY-AMOUNT, S
 use Rattle.rules.specs.Ledger.{Ledger, receipt, escrowCount, receiptCount, walletOf, written}
 use Rattle.rules.specs.Wallets.{isClosed, openTo}
 use Rattle.rules.specs.Refusals.{clear, seenIn, seen, countedOf, counted, sender, ofEscrow, ofReceipt, releasable, notEmpty}
-use Rattle.rules.specs.Refusals.{entryRefusals, envelopeRefusals, operationRefusals, refusals}
-use Rattle.rules.specs.Submit.{answerOf}
+use Rattle.rules.specs.Refusals.{entryRefusals, envelopeRefusals, operationRefusalsBy, operationRefusals, refusalsBy}
+use Rattle.rules.specs.Submit.{answerBy, answerOf}
 use Rattle.rules.specs.Same.{Same-written}
 use Rattle.rules.specs.declared.Submission.{Submission}
 use Rattle.rules.specs.declared.Read.{Read}
@@ -78,7 +78,7 @@ module _ (K L : Ledger) (a : Same-written K L) (wide : 8 ≤ L .edition .escrow)
   envelope-rows s = rw (seen-same (s .signer) (s .nonce), a .header)
 
   operation-rows : (s : Submission) → operationRefusals K s ≡ operationRefusals L s
-  unfolding operationRefusals
+  unfolding operationRefusalsBy
   operation-rows s =
       rw (
         counted-same (s .signer) (s .now),
@@ -108,5 +108,5 @@ module _ (K L : Ledger) (a : Same-written K L) (wide : 8 ≤ L .edition .escrow)
       )
 
   pub answer-same : (r : Read) → answerOf K r ≡ answerOf L r
-  unfolding answerOf refusals
+  unfolding answerBy refusalsBy
   answer-same r = rw (entry-rows r, envelope-rows (r .submission), operation-rows (r .submission))

@@ -1,7 +1,6 @@
 -- Header and written rows alone decide what settling leaves: an accept, a sweep turn by turn, every operation, the clock and the journal. So one
 -- submission is answered alike (`same-answers`). The second ledger is sound, as it settles; so a receipt's link names a written escrow.
 use mathlib.Core.Path.{_≡_, refl, sym, ap, ap₂, _∙_}
-use mathlib.Core.List.{[], _∷_}
 use mathlib.Core.Bool.{Bool, true, cond, _&&_}
 use Prim.Native.Nat.{ℕ, _-_, _≤_, _<_}
 use native.Mathlib.Omega.{arith}
@@ -11,13 +10,13 @@ use borrow.Author.Tests.{eqb-false}
 use Rattle.rules.specs.Limits.{ESCROW-LEN, LAST-TIME-MS, SYSTEM-FROZEN, CLOCK, GRANTED, ESCROWS, RECEIPTS, BALANCE, LOCKED, FROZEN, TX-CAP, DAILY-CAP}
 use Rattle.rules.specs.Limits.{ESCROW-DEADLINE, ESCROW-STATE, RELEASED, REFUNDED}
 use Rattle.rules.specs.Limits.{RECEIPT-LINK, ACCEPTANCE-DEADLINE, AUTO-ACCEPT, RECEIPT-STATE, RELEASE-CODE, RELEASE-IMPOSSIBLE, ACCEPTED, DISPUTED}
-use Rattle.rules.specs.Limits.{ACCEPT, DISPUTE, SWEEP}
+use Rattle.rules.specs.Limits.{REPLY, SWEEP, ACCEPTS}
 use Rattle.rules.specs.Ledger.{Ledger, Outcome, outcome, receipt, escrowCount, receiptCount, hasWallet, putHead, putWallet, newWallet}
 use Rattle.rules.specs.Record.{readOf}
-use Rattle.rules.specs.Refusals.{releasable, oneOf, closing}
+use Rattle.rules.specs.Refusals.{clear, releasable, oneOf, closing, replying}
 use Rattle.rules.specs.Settle.{Done, done, Sweep, sweepStart, sweptReceipts, swept, dueReceipt, dueEscrow, raise, lower, ensureWallet, endEscrow}
 use Rattle.rules.specs.Settle.{closeReceipt, acceptRow, closeDueReceipt, closeDueEscrow, sweepReceipt, sweepEscrow, escrowOf, receiptOf, entryOf}
-use Rattle.rules.specs.Settle.{grant, transfer, openEscrow, release, refund, claim, accept, dispute, sweep, freeze, caps, close, operations, idle, operate, enter, settle}
+use Rattle.rules.specs.Settle.{grant, transfer, openEscrow, release, refund, claim, accept, dispute, reply, sweep, freeze, caps, close, operations, idle, operateBy, operate, enter, settleBy, settle}
 use Rattle.rules.specs.Submit.{answerOf, submit}
 use Rattle.rules.specs.Same.{Same-written, Same-outcome}
 use Rattle.rules.specs.Agreement.{Same-answers}
@@ -177,19 +176,25 @@ module _ (K L : Ledger) (a : Same-written K L) (whole : L .edition .escrow ≡ E
       → Same-done (done 0 (endEscrow state (s .now) (s .signer) (s .target - 1) K)) (done 0 (endEscrow state (s .now) (s .signer) (s .target - 1) L))
   same-closing t state = record { word = refl; after = same-end K L a (omega arith) state (s .now) (s .signer) (s .target - 1) (escrow-row L r z t) }
 
+  same-reply : s .op ≡ REPLY → Same-done (reply s K) (reply s L)
+  unfolding reply accept dispute
+  same-reply e =
+      cond-rel Same-done (clear s ACCEPTS) (clear s ACCEPTS) _ _ _ _ refl
+      (λ h. record { word = refl; after = same-close K L a DISPUTED (s .now) (s .signer) (s .target - 1) })
+      (λ h. same-accept K L a good-L (s .now) (s .signer) (s .target - 1) (form .now-right) (receipt-row L r z (ap (oneOf replying) e)))
+
   same-operate : Same-done (operate s K) (operate s L)
-  unfolding operate release refund accept dispute sweep
+  unfolding operateBy release refund sweep
   same-operate =
-      by-op (λ (o : ℕ). Same-done (getD operations (o - 1) idle s K) (getD operations (o - 1) idle s L)) (s .op) (form .low) (form .high)
+      by-op (λ (o : ℕ). Same-done (getD operations (o - 1) idle s K) (getD operations (o - 1) idle s L)) (s .op) (form .low) (form .high) (form .not-8)
       (λ e. same-grant) (λ e. same-transfer) (λ e. same-open)
       (λ e. same-closing (ap (oneOf closing) e) RELEASED) (λ e. same-closing (ap (oneOf closing) e) REFUNDED) (λ e. same-claim)
-      (λ e. same-accept K L a good-L (s .now) (s .signer) (s .target - 1) (form .now-right) (receipt-row L r z (ap (oneOf (ACCEPT ∷ DISPUTE ∷ [])) e)))
-      (λ e. record { word = refl; after = same-close K L a DISPUTED (s .now) (s .signer) (s .target - 1) })
+      same-reply
       (λ e. let x = same-swept L (s .now) (form .now-right) K a good-L (s .amount) in record { word = x .closed; after = x .tables })
       (λ e. same-freeze) (λ e. same-caps) (λ e. same-shut)
 
   same-settle : Same-done (settle s K) (settle s L)
-  unfolding settle enter
+  unfolding settleBy enter
   same-settle =
       let d = same-operate in
       let c = same-head _ _ (d .after) CLOCK (s .now) (omega arith) (omega arith) (omega arith) (omega arith) in

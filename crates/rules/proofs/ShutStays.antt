@@ -20,8 +20,8 @@ use Rattle.rules.specs.Ledger.{putHead, putWallet, putEscrow, putReceipt
 use Rattle.rules.specs.Wallets.{isClosed}
 use Rattle.rules.specs.Record.{bit}
 use Rattle.rules.specs.Refusals.{releasable, oneOf, paying, closing, replying, signs, targets}
-use Rattle.rules.specs.Settle.{raise, lower, ensureWallet, endEscrow, closeReceipt, Done, acceptRow, Sweep, sweepStart, dueReceipt, dueEscrow}
-use Rattle.rules.specs.Settle.{closeDueReceipt, closeDueEscrow, sweepReceipt, sweepEscrow, sweptReceipts, swept, operations, idle, operate, enter, settle}
+use Rattle.rules.specs.Settle.{raise, lower, ensureWallet, endEscrow, closeReceipt, Done, acceptRow, Sweep, sweepStart, dueReceipt, dueEscrow, reply}
+use Rattle.rules.specs.Settle.{closeDueReceipt, closeDueEscrow, sweepReceipt, sweepEscrow, sweptReceipts, swept, operations, idle, operateBy, operate, enter, settleBy, settle}
 use Rattle.rules.specs.Settle.{grant, transfer, openEscrow, release, refund, claim, accept, dispute, sweep, freeze, caps, close}
 use Rattle.rules.specs.Submit.{answerOf}
 use Rattle.rules.specs.Promises.{Lent}
@@ -35,7 +35,7 @@ use Rattle.rules.proofs.Moves.{shut, shut-col, shut-first, distinct-mv}
 use Rattle.rules.proofs.Good.{Good, from-written, to-written, escrow-held, good-of}
 use Rattle.rules.proofs.Stays.{Kept, kept-start, kept-close, row-kept, link-row, loop-keeps, receipt-turn as kept-receipt, escrow-turn as kept-escrow}
 use Rattle.rules.proofs.Ensured.{Ensured, ensured}
-use Rattle.rules.proofs.Calls.{settled, by-op}
+use Rattle.rules.proofs.Calls.{settled, by-op, by-reply}
 use Rattle.rules.proofs.Passed.{there, sender-row, target-some, target-row, frozen-row, signer-live, target-live, target-empty}
 use Rattle.rules.proofs.Passed.{escrow-row, escrow-open, receipt-row, wallet-place, escrow-place}
 use Rattle.rules.proofs.Shut.{Empty, Shuts, Leaves, leaves-same, leaves-then, Alive, live-put, leaves-put, leaves-close, alive-moved, leaves-moved, leaves-escrows}
@@ -264,17 +264,18 @@ module _ (L : Ledger) (r : Read) (z : answerOf L r ≡ 0) (form : Formed (r .sub
       (getD-set-other (L .header) RECEIPTS ESCROWS (receiptCount L + 1) 0 (omega arith)) shuts
 
   leaves-operate : Leaves L (operate s L .after)
-  unfolding operate release refund accept dispute sweep
+  unfolding operateBy release refund accept dispute sweep
   leaves-operate =
-      by-op (λ (o : ℕ). Leaves L (getD operations (o - 1) idle s L .after)) (s .op) (form .low) (form .high) leaves-grant leaves-transfer leaves-open
+      by-op (λ (o : ℕ). Leaves L (getD operations (o - 1) idle s L .after)) (s .op) (form .low) (form .high) (form .not-8) leaves-grant leaves-transfer leaves-open
       (λ e. leaves-ended _ _ _ (ap (oneOf closing) e) refl) (λ e. leaves-ended _ _ _ (ap (oneOf closing) e) refl) (λ e. leaves-claim)
-      (λ e. leaves-accept _ _ _ L good-L shuts (receipt-row L r z (ap (oneOf replying) e)) (form .now-right))
-      (λ e. leaves-receipt _ _ _ _ L shuts) (λ e. leaves-swept L _ (form .now-right) _ good-L shuts)
+      (λ e. by-reply (λ (d : Done). Leaves L (d .after)) s L (λ h. leaves-receipt _ _ _ _ L shuts)
+      (λ h. leaves-accept _ _ _ L good-L shuts (receipt-row L r z (ap (oneOf replying) e)) (form .now-right)))
+      (λ e. leaves-swept L _ (form .now-right) _ good-L shuts)
       leaves-freeze leaves-caps leaves-closed
 
   -- clock and journal
   pub leaves-settle : Leaves L (settle s L .after)
-  unfolding settle enter
+  unfolding settleBy enter
   leaves-settle =
       let a = leaves-operate in
       let M : Ledger = putHead CLOCK (s .now) (operate s L .after) in

@@ -17,9 +17,9 @@ use Rattle.rules.specs.Ledger.{Edition, Ledger, Outcome, outcome, head, 
 use Rattle.rules.specs.Ledger.{setHeader, putHead, newEntry, lengthsRight, freshHeader, fresh}
 use Rattle.rules.specs.Record.{readOf}
 use Rattle.rules.specs.Sound.{time, between, sound}
-use Rattle.rules.specs.Refusals.{refusals, entryRefusals, envelopeRefusals, operationRefusals, oneOf}
-use Rattle.rules.specs.Settle.{operate, entryOf, enter, settle}
-use Rattle.rules.specs.Submit.{answerOf}
+use Rattle.rules.specs.Refusals.{refusalsBy, refusals, entryRefusals, envelopeRefusals, operationRefusalsBy, oneOf}
+use Rattle.rules.specs.Settle.{operate, entryOf, enter, settleBy, settle}
+use Rattle.rules.specs.Submit.{answerBy, answerOf}
 use Rattle.rules.specs.History.{Call, leaves, after}
 use Rattle.rules.specs.Promises.{Lent, started, Sound-always, Sound-settles, Never-damaged, Rows-stay-within}
 use Rattle.rules.specs.declared.Submission.{Submission}
@@ -148,7 +148,7 @@ module _ (L : Ledger) (r : Read) (z : answerOf L r ≡ 0) (form : Formed (r .sub
       go false e = refl
 
   sound-settled : sound (settle s L .after) ≡ true
-  unfolding settle enter M
+  unfolding settleBy enter M
   sound-settled =
       cond-case (λ (K : Ledger). sound K ≡ true) (eqb (s .op) SWEEP) M (newEntry (entryOf s (operate s L .word)) M)
       (λ e. sound-of M good-M journal-M header-M)
@@ -219,7 +219,7 @@ pub sound-always : Sound-always
 sound-always L lent calls = sound-after (started L) (lent-started L lent) (sound-started L lent) calls
 
 pub never-damaged : Never-damaged
-unfolding answerOf refusals entryRefusals envelopeRefusals operationRefusals
+unfolding answerBy refusalsBy entryRefusals envelopeRefusals operationRefusalsBy
 never-damaged L lent calls b e =
     let N : Ledger = after (started L) calls in
     let h : not (sound N) || false ≡ true = first-holds (refusals N (readOf b)) 2 (omega arith) (sym (number-is N b) ∙ e) in

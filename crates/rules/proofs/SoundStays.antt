@@ -11,12 +11,12 @@ use lib.Dec.{eqb, lit<, lit≤}
 use borrow.Author.Tests.{eqb-true, eqb-false}
 use Rattle.rules.specs.Limits.{WALLET-LEN, SYSTEM-FROZEN, GRANTED, WALLETS, ESCROWS, RECEIPTS, BALANCE, LOCKED, FROZEN, TX-CAP, DAILY-CAP, IS-CLOSED}
 use Rattle.rules.specs.Limits.{IS-OPEN, RELEASED, REFUNDED, PENDING, DISPUTED, AUTO-OR-FREEZE}
-use Rattle.rules.specs.Limits.{GRANT, TRANSFER, OPEN, CLAIM, ACCEPT, DISPUTE}
+use Rattle.rules.specs.Limits.{GRANT, TRANSFER, OPEN, CLAIM}
 use Rattle.rules.specs.Table.{put, rowsIn}
 use Rattle.rules.specs.Ledger.{Edition, Ledger, head, walletCount, escrowCount, receiptCount, walletRow, putHead, putWallet, newEscrow, newReceipt}
 use Rattle.rules.specs.Record.{bit}
-use Rattle.rules.specs.Refusals.{oneOf, paying, closing}
-use Rattle.rules.specs.Settle.{raise, lower, ensureWallet, endEscrow, operations, idle, operate, grant, transfer, openEscrow, release, refund, claim, accept, dispute, sweep, freeze, caps, close}
+use Rattle.rules.specs.Refusals.{oneOf, paying, closing, replying}
+use Rattle.rules.specs.Settle.{raise, lower, ensureWallet, endEscrow, operations, idle, operateBy, operate, grant, transfer, openEscrow, release, refund, claim, accept, dispute, sweep, freeze, caps, close, Done}
 use Rattle.rules.specs.Submit.{answerOf}
 use Rattle.rules.specs.declared.Submission.{Submission}
 use Rattle.rules.specs.declared.Read.{Read}
@@ -29,7 +29,7 @@ use Rattle.rules.proofs.Good.{GoodTables, Good, good-of}
 use Rattle.rules.proofs.GoodRows.{moved-put, moved-then, moved-tables, open-tables, claim-tables}
 use Rattle.rules.proofs.Stays.{kept-end, kept-close, kept-accept, kept-sweep}
 use Rattle.rules.proofs.Ensured.{Ensured, ensured}
-use Rattle.rules.proofs.Calls.{settled, by-op}
+use Rattle.rules.proofs.Calls.{settled, by-op, by-reply}
 use Rattle.rules.proofs.Passed.{amount-low, amount-high, sender-row, sender-has, target-some, target-other, escrow-row, escrow-open, link-written}
 use Rattle.rules.proofs.Passed.{written-row, link-from, link-to, receipt-row, grant-within, wallet-place, escrow-place, receipt-place}
 
@@ -168,10 +168,12 @@ module _ (L : Ledger) (r : Read) (z : answerOf L r ≡ 0) (form : Formed (r .sub
   good-end t state c st = kept-end L good-L (s .target - 1) (escrow-row L r z t) (escrow-open L r z t) state (s .now) (s .signer) c st (form .now-right) .good
 
   pub good-operate : Good (operate s L .after)
-  unfolding operate release refund accept dispute sweep
+  unfolding operateBy release refund accept dispute sweep
   good-operate =
-      by-op (λ (o : ℕ). Good (getD operations (o - 1) idle s L .after)) (s .op) (form .low) (form .high) good-grant good-transfer good-open
+      by-op (λ (o : ℕ). Good (getD operations (o - 1) idle s L .after)) (s .op) (form .low) (form .high) (form .not-8) good-grant good-transfer good-open
       (λ e. good-end (ap (oneOf closing) e) RELEASED refl (lit≤ tt, lit≤ tt)) (λ e. good-end (ap (oneOf closing) e) REFUNDED refl (lit≤ tt, lit≤ tt)) good-claim
-      (λ e. kept-accept L good-L (s .target - 1) (receipt-row L r z (ap (oneOf (ACCEPT ∷ DISPUTE ∷ [])) e)) (s .now) (s .signer) (form .now-right) .good)
-      (λ e. kept-close L good-L (s .target - 1) DISPUTED (s .now) (s .signer) (lit≤ tt, lit≤ tt) (form .now-right) .good)
+      (λ e.
+      by-reply (λ (d : Done). Good (d .after)) s L
+      (λ h. kept-close L good-L (s .target - 1) DISPUTED (s .now) (s .signer) (lit≤ tt, lit≤ tt) (form .now-right) .good)
+      (λ h. kept-accept L good-L (s .target - 1) (receipt-row L r z (ap (oneOf replying) e)) (s .now) (s .signer) (form .now-right) .good))
       (λ e. kept-sweep L (s .now) (form .now-right) good-L (s .amount) .good) (λ e. good-freeze) (λ e. good-caps) (λ e. good-close)

@@ -19,7 +19,7 @@ use Rattle.rules.specs.Ledger.{Edition, Ledger, Outcome, escrow, receipt
 use Rattle.rules.specs.Record.{readOf}
 use Rattle.rules.specs.Refusals.{releasable}
 use Rattle.rules.specs.Settle.{Done, done, Sweep, sweptReceipts, swept, dueReceipt, dueEscrow, raise, lower, endEscrow, closeReceipt, acceptRow}
-use Rattle.rules.specs.Settle.{closeDueReceipt, closeDueEscrow, sweepReceipt, sweepEscrow, sweep, operations, idle, operate, settle}
+use Rattle.rules.specs.Settle.{closeDueReceipt, closeDueEscrow, sweepReceipt, sweepEscrow, sweep, operations, idle, operateBy, settleBy}
 use Rattle.rules.specs.Due.{dueReceipts, dueEscrows, closeAll}
 use Rattle.rules.specs.Promises.{Sweep-counts, Sweep-answers, Sweep-closes}
 use Rattle.rules.specs.declared.Submission.{Submission}
@@ -176,7 +176,7 @@ sweep-closes now limit L w = ap (λ (s : Sweep). s .tables) (after-escrows now l
 
 -- so the word of a settled sweep counts the rows that it closes
 pub sweep-answers : Sweep-answers
-unfolding settle operate sweep
+unfolding settleBy operateBy sweep
 sweep-answers L b w zero-b is-sweep =
     let s : Submission = readOf b .submission in
     ap (λ (o : Outcome). o .word) (laid-down L b zero-b)

@@ -3,7 +3,7 @@
 -- call is that fold on tables started afresh, or it leaves the report.
 use mathlib.Core.Path.{_≡_, refl, sym, ap, _∙_}
 use mathlib.Core.List.{List, [], _∷_, _++_}
-use mathlib.Core.Bool.{true, false, not, true≢false}
+use mathlib.Core.Bool.{true, false, not, true≢false, _&&_}
 use Prim.Native.Nat.{ℕ, zero, suc, _+_, _≤_, _<_}
 use native.Mathlib.Omega.{arith}
 use lib.ListN.{getD, length, take, drop, replicate, length-append, getD-replicate}
@@ -11,7 +11,7 @@ use lib.Dec.{eqb, leb}
 use borrow.Author.Tests.{leb-true, eqb-false}
 use Rattle.rules.specs.Limits.{LAST-OPERATION, GRID-ROWS, ANSWERS, FIGURES}
 use Rattle.rules.specs.Ledger.{Ledger, lengthsRight}
-use Rattle.rules.specs.Record.{decode}
+use Rattle.rules.specs.Record.{decode, inForm}
 use Rattle.rules.specs.Submit.{submit}
 use Rattle.rules.specs.Recording.{Entry, entriesOf, recordsOf}
 use Rattle.rules.specs.Replay.{Rule, Next, on, stop-before, Gone, gone, further, through, ledgerAfter}
@@ -19,7 +19,8 @@ use Rattle.rules.specs.Report.{Report, reportOf, blank-report, hasNamed,
 use Rattle.rules.specs.Report.{Reading, reading, reported, reportOn, Reported, tellingOf, report}
 use Rattle.rules.specs.Promises.{Lent, started}
 use Rattle.rules.specs.Month.{linesFrom, inCell, inFigure, Open, Counts, Stops, Says, Report-says}
-use Rattle.rules.proofs.Bools.{cond-case}
+use Rattle.rules.specs.declared.Form.the-variants.{Today}
+use Rattle.rules.proofs.Bools.{and-fst, cond-case}
 use Rattle.rules.proofs.Demand12.{on-the-list}
 use Rattle.rules.proofs.Grid.{raised-total, raised-rows, raised-columns, raised-cell}
 use Rattle.rules.proofs.Past.{passing-some}
@@ -57,7 +58,9 @@ pub record Line-fits (R : Report) (l : Line) : Type 0 where
   pub column : l .column < length (getD (R .grid) (l .row) [])
 
 pub row-listed : (op : ℕ) → gridRow op ≤ LAST-OPERATION
-row-listed op = cond-case (λ (row : ℕ). row ≤ LAST-OPERATION) (leb op LAST-OPERATION) op 0 (leb-true op LAST-OPERATION) (λ e. omega arith)
+row-listed op =
+    cond-case (λ (row : ℕ). row ≤ LAST-OPERATION) (leb op LAST-OPERATION && inForm Today op) op 0
+    (λ e. leb-true op LAST-OPERATION (and-fst (leb op LAST-OPERATION) _ e)) (λ e. omega arith)
 
 pub line-fits : (L : Ledger) (b : List ℕ) (R : Report) → Open R → Line-fits R (lineOf L b (submit L b))
 line-fits L b R o =

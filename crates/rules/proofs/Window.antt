@@ -4,21 +4,21 @@
 use mathlib.Core.Path.{_≡_, refl, sym, ap, ap₂, _∙_, subst}
 use mathlib.Core.Logic.{_≢_}
 use mathlib.Core.List.{List, [], _∷_}
-use mathlib.Core.Bool.{Bool, true, false, cond, not, _&&_}
+use mathlib.Core.Bool.{Bool, true, false, cond, not, _&&_, true≢false}
 use Prim.Native.Nat.{ℕ, _+_, _-_, _*_, _≤_, _<_}
 use native.Mathlib.Omega.{arith}
 use lib.ListN.{getD, length}
 use lib.Dec.{eqb, ltb, leb, lit<}
 use borrow.Author.Tests.{eqb-true, eqb-false, le-leb}
-use Rattle.rules.specs.Limits.{RECEIPT-LEN, CLAIM, ACCEPT, SWEEP}
+use Rattle.rules.specs.Limits.{RECEIPT-LEN, CLAIM, REPLY, SWEEP, ACCEPTS}
 use Rattle.rules.specs.Limits.{ESCROW-DEADLINE, ESCROW-STATE, IS-OPEN, RELEASED, RECEIPT-LINK, RECEIPT-STATE, RECEIPT-CLOSED-AT, RECEIPT-CLOSED-BY, ACCEPTED, RELEASE-CODE, RELEASE-IMPOSSIBLE}
 use Rattle.rules.specs.Table.{rowsIn}
 use Rattle.rules.specs.Ledger.{Ledger, Outcome, escrow, receipt, escrowCount, receiptCount, putHead, putWallet, putEscrow, putReceipt, newEntry}
 use Rattle.rules.specs.Record.{readOf}
-use Rattle.rules.specs.Refusals.{oneOf, replying, releasable}
-use Rattle.rules.specs.Settle.{raise, lower, endEscrow, closeReceipt, Done, acceptRow, operations, idle, operate, openEscrow, claim, accept, enter, settle}
+use Rattle.rules.specs.Refusals.{oneOf, replying, releasable, clear}
+use Rattle.rules.specs.Settle.{raise, lower, endEscrow, closeReceipt, Done, acceptRow, operations, idle, operateBy, operate, openEscrow, claim, accept, enter, settleBy, settle, reply}
 use Rattle.rules.specs.Submit.{answerOf, submit}
-use Rattle.rules.specs.History.{Call, Said, saidOf, begun, after, said, Deal, Note, Book, blank, ends, closes, tries, Sweeping, sweepNote, sweepDeal, sweeps}
+use Rattle.rules.specs.History.{Call, Said, saidOf, begun, after, said, Deal, Note, Book, blank, ends, closes, tries, Sweeping, sweepNote, sweepDeal, sweeps, replies}
 use Rattle.rules.specs.History.{grants, transfers, opens-escrow, releases, refunds, makes-claim, accepts, disputes, sweeps-due, says-nothing, sayings, enters, hears, bookOf}
 use Rattle.rules.specs.Promises.{Lent, started}
 use Rattle.rules.specs.Window.{linkedToOpen, linkedToClosed, Accepted-in-time, Accepts-in-time}
@@ -28,7 +28,7 @@ use Rattle.rules.proofs.Bools.{cond-case}
 use Rattle.rules.proofs.Rows.{rows-fit, in-table, word-same}
 use Rattle.rules.proofs.Moves.{shut, shut-col, length-shut, and-true}
 use Rattle.rules.proofs.Formed.{Formed, formed-says, read-formed}
-use Rattle.rules.proofs.Calls.{by-answer, by-left, number-is, settled, by-op}
+use Rattle.rules.proofs.Calls.{by-answer, by-left, number-is, settled, by-op, by-reply}
 use Rattle.rules.proofs.Passed.{link-written, written-row, link-deadline, receipt-row, receipt-pending, reply-in-time}
 use Rattle.rules.proofs.Tests.{written-high}
 use Rattle.rules.proofs.Demand12.{fresh-zero}
@@ -120,19 +120,20 @@ module _ (L : Ledger) (r : Read) (B : Book) (f : Fits L B) (z : answerOf L r ≡
 
   timed-operate :
       TimedOf (getD sayings (r .submission .op - 1) says-nothing (record { submission = r .submission; number = 0; word = operate (r .submission) L .word }) B)
-  unfolding operate openEscrow claim grants transfers releases refunds accepts disputes sweeps-due
+  unfolding operateBy openEscrow claim grants transfers releases refunds accepts disputes replies sweeps-due
   timed-operate =
       by-op
       (λ (o : ℕ). TimedOf (getD sayings (o - 1) says-nothing (record { submission = s; number = 0; word = getD operations (o - 1) idle s L .word }) B))
-      (s .op) (form .low) (form .high)
+      (s .op) (form .low) (form .high) (form .not-8)
       (λ e. t)
       (λ e. t)
       (λ e. timed-opens _ B (ap (λ (n : ℕ). n + 1) (f .escs .count)) t)
       (λ e. timed-ends true _ B t)
       (λ e. timed-ends false _ B t)
       (λ e. timed-claim _ B (ap (λ (n : ℕ). n + 1) (f .recs .count)) (link-low e) (link-early e) t)
-      (λ e. cond-case TimedOf (eqb (accept s L .word) 0) _ _ (λ h. timed-closes _ B t) (λ h. timed-ends true _ _ (timed-closes _ B t)))
-      (λ e. timed-closes _ B t)
+      (λ e.
+      cond-case TimedOf (clear s ACCEPTS) _ _ (λ d. timed-closes _ B t)
+      (λ d. cond-case TimedOf (eqb (reply s L .word) 0) _ _ (λ h. timed-closes _ B t) (λ h. timed-ends true _ _ (timed-closes _ B t))))
       (λ e. timed-sweeps _ _ B t)
       (λ e. t)
       (λ e. t)
@@ -142,7 +143,7 @@ timed-blank : TimedOf blank
 timed-blank = record { linked = λ i h. omega arith; in-time = λ i h. absurd (omega (arith, h)) }
 
 timed-call : (L : Ledger) (b : List ℕ) (B : Book) → Lent L → Fits L B → TimedOf B → TimedOf (enters (saidOf b (submit L b)) B)
-unfolding enters settle
+unfolding enters settleBy
 timed-call L b B lent f t =
     by-answer (λ (o : Outcome). TimedOf (enters (saidOf b o) B)) L b
     (λ e. timed-operate L (readOf b) B f e (formed-says _ (read-formed b (settled L (readOf b) e .formed))) t)
@@ -220,24 +221,24 @@ module _ (L : Ledger) (i now signer : ℕ) (rows-in : receiptCount L ≤ rowsIn 
 
 -- clock and journal leave the receipts
 receipts-stay : (s : Submission) (L : Ledger) (i c : ℕ) → receipt (settle s L .after) i c ≡ receipt (operate s L .after) i c
-unfolding settle enter newEntry putHead
+unfolding settleBy enter newEntry putHead
 receipts-stay s L i c = cond-case (λ (K : Ledger). receipt K i c ≡ receipt (operate s L .after) i c) (eqb (s .op) SWEEP) _ _ (λ e. refl) (λ e. refl)
 
-module _ (L : Ledger) (B : Book) (f : Fits L B) (t : TimedOf B) (b : List ℕ) (z : answerOf L (readOf b) ≡ 0) (is-accept : readOf b .submission .op ≡ ACCEPT)
-    (rows-in : receiptCount L ≤ rowsIn RECEIPT-LEN (L .receipts)) where
+module _ (L : Ledger) (B : Book) (f : Fits L B) (t : TimedOf B) (b : List ℕ) (z : answerOf L (readOf b) ≡ 0) (is-reply : readOf b .submission .op ≡ REPLY)
+    (is-accept : clear (readOf b .submission) ACCEPTS ≡ false) (rows-in : receiptCount L ≤ rowsIn RECEIPT-LEN (L .receipts)) where
   i : ℕ
   i = readOf b .submission .target - 1
 
-  reply : oneOf replying (readOf b .submission .op) ≡ true
-  reply = ap (oneOf replying) is-accept
+  replied : oneOf replying (readOf b .submission .op) ≡ true
+  replied = ap (oneOf replying) is-reply
 
   i< : i < receiptCount L
   unfolding i
-  i< = receipt-row L (readOf b) z reply
+  i< = receipt-row L (readOf b) z replied
 
   unset : receipt L i RELEASE-CODE ≡ 0
   unfolding i
-  unset = f .recs .code i i< (sym (f .recs .pending i i<) ∙ receipt-pending L (readOf b) z reply)
+  unset = f .recs .code i i< (sym (f .recs .pending i i<) ∙ receipt-pending L (readOf b) z replied)
 
   -- now is not after the claim's deadline, and that not after the escrow's
   never-stale : receipt L i RECEIPT-LINK ≢ 0 → readOf b .submission .now ≤ escrow L (receipt L i RECEIPT-LINK - 1) ESCROW-DEADLINE
@@ -249,19 +250,20 @@ module _ (L : Ledger) (B : Book) (f : Fits L B) (t : TimedOf B) (b : List ℕ) (
       subst (λ (x : ℕ). x ≢ 0 → B .note i .until ≤ B .deal (x - 1) .until) (sym (f .recs .link i i<)) (t .in-time i claimed) some-link in
       omega (
         arith,
-        reply-in-time L (readOf b) z reply,
+        reply-in-time L (readOf b) z replied,
         f .recs .until i i<,
         early,
         f .escs .until (k - 1) (omega (arith, f .recs .link i i<, t .linked i claimed, f .escs .count, some-link)),
       )
 
   came : Came-to L i (operate (readOf b .submission) L)
-  unfolding operate accept i
+  unfolding operateBy accept i
   came =
-      subst (λ (o : ℕ). Came-to L i (getD operations (o - 1) idle (readOf b .submission) L)) (sym is-accept) (came-to L i _ _ rows-in i< unset never-stale)
+      subst (λ (o : ℕ). Came-to L i (getD operations (o - 1) idle (readOf b .submission) L)) (sym is-reply)
+      (by-reply (Came-to L i) (readOf b .submission) L (λ d. absurd (true≢false (sym d ∙ is-accept))) (λ d. came-to L i _ _ rows-in i< unset never-stale))
 
   accepted-in-time : Accepted-in-time L b (readOf b .submission .target - 1)
-  unfolding i settle
+  unfolding i settleBy
   accepted-in-time = record {
     not-stale = never-stale;
     word = by-answer (λ (o : Outcome). o .word ≡ cond (linkedToOpen L i) (receipt L i RECEIPT-LINK) 0) L b (λ e. came .word) (λ ne. absurd (ne z));
@@ -270,7 +272,7 @@ module _ (L : Ledger) (B : Book) (f : Fits L B) (t : TimedOf B) (b : List ℕ) (
   }
 
 pub accepts-in-time : Accepts-in-time
-accepts-in-time L lent calls b zero is-accept =
+accepts-in-time L lent calls b zero is-reply is-accept =
     let M : Ledger = after (started L) calls in
     let p : Both M (bookOf (said (started L) calls)) = both-all L lent calls in
-    accepted-in-time M _ (p .fits) (p .timed) b (sym (number-is M b) ∙ zero) is-accept (rows-stay-within L lent calls .receipts)
+    accepted-in-time M _ (p .fits) (p .timed) b (sym (number-is M b) ∙ zero) is-reply is-accept (rows-stay-within L lent calls .receipts)

@@ -2,7 +2,7 @@
 use mathlib.Core.List.{List, [], _∷_, _++_}
 use Prim.Native.Nat.{ℕ, _+_}
 use lib.ListN.{set, replicate}
-use Rattle.rules.specs.Limits.{GRANT, TRANSFER, OPEN, RELEASE, REFUND, CLAIM, ACCEPT, DISPUTE, SWEEP, FREEZE, CAPS, CLOSE, ALL-AGREE, FIGURES}
+use Rattle.rules.specs.Limits.{GRANT, TRANSFER, OPEN, RELEASE, REFUND, CLAIM, REPLY, SWEEP, FREEZE, CAPS, CLOSE, ALL-AGREE, FIGURES}
 use Rattle.rules.specs.Limits.{DEFAULT-TX-CAP-MICRO, DEFAULT-DAILY-CAP-MICRO}
 use Rattle.rules.specs.Ledger.{Ledger, ledger}
 use Rattle.rules.specs.Record.{encode}
@@ -53,7 +53,7 @@ abbrev pub claims : ℕ → Submission
 claims nonce = sub CLAIM 0b0001 1_000 8 nonce 1_000 2_000 7 0 400_000 1
 
 abbrev pub accepts : ℕ → ℕ → Submission
-accepts nonce number = sub ACCEPT 0b0001 400_000 7 nonce 400_000 401_000 number 0 0 0
+accepts nonce number = sub REPLY 0b0101 400_000 7 nonce 400_000 401_000 number 0 0 0
 
 abbrev pub sweeps : Submission
 sweeps = sub SWEEP 0 3_000 0 0 0 0 0 1 0 0
@@ -157,13 +157,13 @@ TWO-DAYS-LATE-MS = 173_200_000
 
 -- a signer accepts a receipt, disputes it with a reason, and without one
 abbrev pub accepts-at : ℕ → ℕ → ℕ → ℕ → Submission
-accepts-at now signer nonce number = sub ACCEPT 0b0001 now signer nonce now (now + 1_000) number 0 0 0
+accepts-at now signer nonce number = sub REPLY 0b0101 now signer nonce now (now + 1_000) number 0 0 0
 
 abbrev pub disputes-at : ℕ → ℕ → ℕ → ℕ → Submission
-disputes-at now signer nonce number = sub DISPUTE 0b1001 now signer nonce now (now + 1_000) number 0 0 0
+disputes-at now signer nonce number = sub REPLY 0b1001 now signer nonce now (now + 1_000) number 0 0 0
 
 abbrev pub disputes-bare : ℕ → ℕ → ℕ → ℕ → Submission
-disputes-bare now signer nonce number = sub DISPUTE 0b0001 now signer nonce now (now + 1_000) number 0 0 0
+disputes-bare now signer nonce number = sub REPLY 0b0001 now signer nonce now (now + 1_000) number 0 0 0
 
 -- ---- Request 6: closed wallets
 

@@ -220,7 +220,7 @@ cases =
     ∷ reported-from 508 blank-report
     (added (entry P1 ∷ entry P2 ∷ sent (claims 1) ∷ sent (accepts-at WINDOW-OVER-MS 7 2 1) ∷ sent (disputes-at WINDOW-OVER-MS 7 2 1) ∷ []) 5
     (has 7 30_000_000 20_000_000 ∷ []) ∷ [])
-    (counted 1 0 1 ∷ counted 3 0 1 ∷ counted 6 0 1 ∷ counted 7 41 1 ∷ counted 8 41 1 ∷ []) (50_000_000 ∷ 0 ∷ 0 ∷ 0 ∷ 0 ∷ []) NOTHING-NAMED
+    (counted 1 0 1 ∷ counted 3 0 1 ∷ counted 6 0 1 ∷ counted 7 41 2 ∷ []) (50_000_000 ∷ 0 ∷ 0 ∷ 0 ∷ 0 ∷ []) NOTHING-NAMED
     -- an empty wallet is closed, and whatever names it is refused then: a grant, a payment and a hold to it, a payment and a hold by it, a claim by it and
     -- one against it, freeze, unfreeze, caps, a second close
     ∷ case 601

@@ -5,10 +5,11 @@ use mathlib.Core.Bool.{Bool, true, false, cond, not, _&&_}
 use Prim.Native.Nat.{ℕ, _+_, _-_}
 use lib.ListN.{getD}
 use lib.Dec.{eqb, ltb, leb}
-use Rattle.rules.specs.Limits.{AUTO-OR-FREEZE}
+use Rattle.rules.specs.Limits.{AUTO-OR-FREEZE, ACCEPTS}
 use Rattle.rules.specs.Table.{loop}
 use Rattle.rules.specs.Ledger.{Ledger, Outcome, fresh}
 use Rattle.rules.specs.Record.{readOf, bit}
+use Rattle.rules.specs.Refusals.{clear}
 use Rattle.rules.specs.Submit.{submit}
 use Rattle.rules.specs.declared.Submission.{Submission}
 
@@ -263,16 +264,20 @@ accepts e B =
 unfoldable pub disputes : Said → Book → Book
 disputes e B = closes (e .submission .target - 1) B
 
+-- a reply is one or the other, by its bit 2
+unfoldable pub replies : Said → Book → Book
+replies e B = cond (clear (e .submission) ACCEPTS) (disputes e B) (accepts e B)
+
 unfoldable pub sweeps-due : Said → Book → Book
 sweeps-due e B = sweeps (e .submission .now) (e .submission .amount) B
 
 abbrev pub says-nothing : Said → Book → Book
 says-nothing e B = B
 
--- by the operations' numbers, from 1 on
+-- by the operations' numbers, from 1 on; 8 is none
 abbrev pub sayings : List (Said → Book → Book)
 sayings =
-    grants ∷ transfers ∷ opens-escrow ∷ releases ∷ refunds ∷ makes-claim ∷ accepts ∷ disputes ∷ sweeps-due ∷ says-nothing ∷ says-nothing ∷ says-nothing ∷ []
+    grants ∷ transfers ∷ opens-escrow ∷ releases ∷ refunds ∷ makes-claim ∷ replies ∷ says-nothing ∷ sweeps-due ∷ says-nothing ∷ says-nothing ∷ says-nothing ∷ []
 
 -- a refused submission says nothing
 unfoldable pub enters : Said → Book → Book

@@ -14,6 +14,7 @@ pub mod Status
 pub mod Recording
 pub mod Replay
 pub mod Report
+pub mod Convert
 pub mod History
 pub mod Due
 pub mod Promises
@@ -23,6 +24,7 @@ pub mod Month
 pub mod Cap
 pub mod Window
 pub mod Closed
+pub mod Converted
 pub mod Results
 pub mod Runs
 pub mod Trials

@@ -83,6 +83,13 @@ MARK-0 = 0xA7
 abbrev pub MARK-1 : ℕ
 MARK-1 = 0x3C
 
+-- where its operation and its flags stand
+abbrev pub OPERATION-AT : ℕ
+OPERATION-AT = 2
+
+abbrev pub FLAGS-AT : ℕ
+FLAGS-AT = 3
+
 -- the bytes of a recording's entry: a record, one byte of answer, eight bytes of answer word; and where these two stand
 abbrev pub ENTRY-BYTES : ℕ
 ENTRY-BYTES = 117
@@ -301,11 +308,9 @@ REFUND = 5
 abbrev pub CLAIM : ℕ
 CLAIM = 6
 
-abbrev pub ACCEPT : ℕ
-ACCEPT = 7
-
-abbrev pub DISPUTE : ℕ
-DISPUTE = 8
+-- an accept or a dispute, by bit 2
+abbrev pub REPLY : ℕ
+REPLY = 7
 
 abbrev pub SWEEP : ℕ
 SWEEP = 9
@@ -318,6 +323,13 @@ CAPS = 11
 
 abbrev pub CLOSE : ℕ
 CLOSE = 12
+
+-- what 7 and 8 are in the old form; today there is no operation 8
+abbrev pub OLD-ACCEPT : ℕ
+OLD-ACCEPT = 7
+
+abbrev pub OLD-DISPUTE : ℕ
+OLD-DISPUTE = 8
 
 -- the last of them, and the report's rows: row 0, and one for every operation
 abbrev pub LAST-OPERATION : ℕ
@@ -342,6 +354,10 @@ ADMIN = 1
 
 abbrev pub AUTO-OR-FREEZE : ℕ
 AUTO-OR-FREEZE = 2
+
+-- the same bit of a reply
+abbrev pub ACCEPTS : ℕ
+ACCEPTS = 2
 
 abbrev pub REASON-GIVEN : ℕ
 REASON-GIVEN = 3

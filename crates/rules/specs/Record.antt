@@ -1,11 +1,14 @@
--- Section "The submission record": 108 bytes, the fields that they say, which operation uses what, reading and writing.
+-- Section "The submission record": 108 bytes, the fields that they say, which operation uses what, reading and writing. With document 02, request 7,
+-- a record has two forms, today's and the old one, which old recordings have. Where they differ the form is a parameter; a name without one is today's.
 use mathlib.Core.List.{List, [], _∷_, _++_}
 use mathlib.Core.Bool.{Bool, true, false, not, cond, _&&_, _||_}
 use Prim.Native.Nat.{ℕ, zero, suc, _+_, _*_, _/_, _%_, _^_}
 use lib.ListN.{getD, length}
 use lib.Dec.{eqb, ltb, leb}
-use Rattle.rules.specs.Limits.{RECORD-BYTES, MARK-0, MARK-1, LAST-TIME-MS, SWEEP, LAST-OPERATION}
+use Rattle.rules.specs.Limits.{RECORD-BYTES, MARK-0, MARK-1, LAST-TIME-MS, OLD-DISPUTE, SWEEP, LAST-OPERATION, ACCEPTS, REASON-GIVEN}
 use Rattle.rules.specs.Table.{all}
+use Rattle.rules.specs.declared.Form.{Form}
+use Rattle.rules.specs.declared.Form.the-variants.{Old, Today}
 use Rattle.rules.specs.declared.Submission.{Submission}
 use Rattle.rules.specs.declared.Read.{Read}
 
@@ -26,9 +29,28 @@ pub record Uses : Type 0 where
 abbrev pub uses : ℕ → Bool → Bool → Bool → Bool → Bool → Bool → Uses
 uses b e t a u l h = record { bits = b; envelope = e; target = t; amount = a; until = u; link = l; hash = h }
 
+-- nothing is used
+abbrev pub noUses : Uses
+noUses = uses 0 false false false false false false
+
+-- "Operations 7 and 8 become one: operation 7 with bit 2 for accept, clear for dispute, and bit 3 as before." Until then an accept was operation 7, and a
+-- dispute operation 8
+abbrev pub usesOf7 : Form → Uses
+usesOf7 Old = uses 0b0001 true true false false false false
+usesOf7 Today = uses 0b1101 true true false false false false
+
+abbrev pub usesOf8 : Form → Uses
+usesOf8 Old = uses 0b1001 true true false false false false
+usesOf8 Today = noUses
+
+-- "Operation 8 is malformed from now on"
+abbrev pub inForm : Form → ℕ → Bool
+inForm Old op = true
+inForm Today op = not (eqb op OLD-DISPUTE)
+
 -- the paper's table, from operation 1 on
-abbrev pub usesTable : List Uses
-usesTable =
+abbrev pub usesTable : Form → List Uses
+usesTable form =
     --   bits   envelope target amount until link hash
     uses 0b0011 true true true false false false
     ∷ uses 0b0001 true true true false false false
@@ -36,16 +58,16 @@ usesTable =
     ∷ uses 0b0011 true true false false false false
     ∷ uses 0b0011 true true false false false false
     ∷ uses 0b0101 true true false true true true
-    ∷ uses 0b0001 true true false false false false
-    ∷ uses 0b1001 true true false false false false
+    ∷ usesOf7 form
+    ∷ usesOf8 form
     ∷ uses 0b0000 false false true false false false
     ∷ uses 0b0111 true true false false false false
     ∷ uses 0b0011 true true true false true false
     ∷ uses 0b0011 true true false false false false
     ∷ []
 
-unfoldable pub usesOf : ℕ → Uses
-usesOf op = getD (uses 0 false false false false false false ∷ usesTable) op (uses 0 false false false false false false)
+unfoldable pub usesOf : Form → ℕ → Uses
+usesOf form op = getD (noUses ∷ usesTable form) op noUses
 
 -- an unused part is zero
 abbrev pub usedOrZero : Bool → ℕ → Bool
@@ -57,11 +79,15 @@ bitsUsed flags used =
     all (leb (bit 0 flags) (bit 0 used) ∷ leb (bit 1 flags) (bit 1 used) ∷ leb (bit 2 flags) (bit 2 used) ∷ leb (bit 3 flags) (bit 3 used)
     ∷ ltb flags 16 ∷ [])
 
-abbrev pub formTests : Submission → List Bool
-formTests s =
-    let u = usesOf (s .op) in
-    leb 1 (s .op) ∷ leb (s .op) LAST-OPERATION
-    ∷ bitsUsed (s .flags) (u .bits)
+-- "Accept requires bit 3 to be clear": no record has bits 2 and 3 together, as no other operation uses both
+abbrev pub bitsApart : ℕ → Bool
+bitsApart flags = eqb (bit ACCEPTS flags) 0 || eqb (bit REASON-GIVEN flags) 0
+
+abbrev pub formTests : Form → Submission → List Bool
+formTests form s =
+    let u = usesOf form (s .op) in
+    leb 1 (s .op) ∷ leb (s .op) LAST-OPERATION ∷ inForm form (s .op)
+    ∷ bitsUsed (s .flags) (u .bits) ∷ bitsApart (s .flags)
     ∷ usedOrZero (u .envelope) (s .signer) ∷ usedOrZero (u .envelope) (s .nonce) ∷ usedOrZero (u .envelope) (s .issued)
     ∷ usedOrZero (u .envelope) (s .expires)
     ∷ usedOrZero (u .target) (s .target) ∷ usedOrZero (u .amount) (s .amount) ∷ usedOrZero (u .until) (s .until)
@@ -72,8 +98,11 @@ formTests s =
     ∷ leb (s .issued) (s .expires) ∷ []
 
 -- the fields are not those of a malformed record
-unfoldable pub wellFormed : Submission → Bool
-wellFormed s = all (formTests s)
+unfoldable pub wellFormedBy : Form → Submission → Bool
+wellFormedBy form s = all (formTests form s)
+
+abbrev pub wellFormed : Submission → Bool
+wellFormed = wellFormedBy Today
 
 -- little-endian numbers of n bytes: at a place of a list, and as bytes
 abbrev pub leAt : ℕ → List ℕ → ℕ → ℕ
@@ -137,15 +166,21 @@ nothing = record {
 }
 
 -- 108 bytes, the mark, and well-formed fields
-abbrev pub acceptTests : List ℕ → List Bool
-acceptTests b = eqb (length b) RECORD-BYTES ∷ eqb (getD b 0 0) MARK-0 ∷ eqb (getD b 1 0) MARK-1 ∷ wellFormed (decode b) ∷ []
+abbrev pub acceptTests : Form → List ℕ → List Bool
+acceptTests form b = eqb (length b) RECORD-BYTES ∷ eqb (getD b 0 0) MARK-0 ∷ eqb (getD b 1 0) MARK-1 ∷ wellFormedBy form (decode b) ∷ []
 
-unfoldable pub accepted : List ℕ → Bool
-accepted b = all (acceptTests b)
+unfoldable pub acceptedBy : Form → List ℕ → Bool
+acceptedBy form b = all (acceptTests form b)
+
+abbrev pub accepted : List ℕ → Bool
+accepted = acceptedBy Today
 
 -- THE READER: 0 and the fields, or 3 and every field 0
-unfoldable pub readOf : List ℕ → Read
-readOf b = cond (accepted b) (record { number = 0; submission = decode b }) (record { number = 3; submission = nothing })
+unfoldable pub readBy : Form → List ℕ → Read
+readBy form b = cond (acceptedBy form b) (record { number = 0; submission = decode b }) (record { number = 3; submission = nothing })
+
+abbrev pub readOf : List ℕ → Read
+readOf = readBy Today
 
 -- THE WRITER: 0 and the record's bytes, or 3 and the output as it was
 pub record Written : Type 0 where

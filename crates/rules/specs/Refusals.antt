@@ -1,13 +1,14 @@
 -- Section "Numbered answers, in order of check": one table, a row for each number. The order of check is that of the rows, not of the numbers:
 -- 41 stands between 34 and 35, 43 and then 42 between 16 and 17. Each condition is exact by itself: where it speaks of a row, it says that the row is there.
+-- Which operations reply to a claim is the form's; a name without a form is today's.
 use mathlib.Core.List.{List, [], _∷_, _++_}
 use mathlib.Core.Bool.{Bool, false, not, cond, _&&_, _||_}
 use Prim.Native.Nat.{ℕ, _+_, _-_}
 use lib.Dec.{eqb, ltb, leb}
 use Rattle.rules.specs.Limits.{WALLET-LEN, RECEIPT-LEN, JOURNAL-LEN, MAX-AMOUNT-MICRO, MAX-GRANTED-MICRO, MAX-SWEEP-ROWS}
 use Rattle.rules.specs.Limits.{MAX-SKEW-MS, MAX-ENVELOPE-MS, DAY-MS, MAX-HOLD-MS, MIN-ACCEPTANCE-MS, MAX-ACCEPTANCE-MS}
-use Rattle.rules.specs.Limits.{GRANT, TRANSFER, OPEN, RELEASE, REFUND, CLAIM, ACCEPT, DISPUTE, SWEEP, FREEZE, CAPS, CLOSE}
-use Rattle.rules.specs.Limits.{SIGNATURE-HELD, ADMIN, REASON-GIVEN, SYSTEM-FROZEN, CLOCK, GRANTED, BALANCE, LOCKED, FROZEN, TX-CAP, DAILY-CAP, IS-FROZEN}
+use Rattle.rules.specs.Limits.{GRANT, TRANSFER, OPEN, RELEASE, REFUND, CLAIM, REPLY, OLD-ACCEPT, OLD-DISPUTE, SWEEP, FREEZE, CAPS, CLOSE}
+use Rattle.rules.specs.Limits.{SIGNATURE-HELD, ADMIN, ACCEPTS, REASON-GIVEN, SYSTEM-FROZEN, CLOCK, GRANTED, BALANCE, LOCKED, FROZEN, TX-CAP, DAILY-CAP, IS-FROZEN}
 use Rattle.rules.specs.Limits.{FROM, TO, ESCROW-DEADLINE, ESCROW-STATE, REQUESTER, ACCEPTANCE-DEADLINE, RECEIPT-STATE, IS-OPEN, PENDING}
 use Rattle.rules.specs.Limits.{SIGNER, NONCE, OPERATION, ENTRY-AMOUNT, SETTLED-AT}
 use Rattle.rules.specs.Table.{word, some, sum, all}
@@ -15,6 +16,8 @@ use Rattle.rules.specs.Ledger.{Ledger, head, escrow, receipt, walletCoun
 use Rattle.rules.specs.Wallets.{isClosed, openTo}
 use Rattle.rules.specs.Record.{bit}
 use Rattle.rules.specs.Sound.{sound, between}
+use Rattle.rules.specs.declared.Form.{Form}
+use Rattle.rules.specs.declared.Form.the-variants.{Old, Today}
 use Rattle.rules.specs.declared.Submission.{Submission}
 use Rattle.rules.specs.declared.Read.{Read}
 
@@ -39,9 +42,9 @@ oneOf (y ∷ ys) x = eqb x y || oneOf ys x
 abbrev pub on : Submission → List ℕ → Bool → Bool
 on s ops b = oneOf ops (s .op) && b
 
--- every operation but the sweep
+-- every operation but the sweep, of either form
 abbrev pub signed : List ℕ
-signed = GRANT ∷ TRANSFER ∷ OPEN ∷ RELEASE ∷ REFUND ∷ CLAIM ∷ ACCEPT ∷ DISPUTE ∷ FREEZE ∷ CAPS ∷ CLOSE ∷ []
+signed = GRANT ∷ TRANSFER ∷ OPEN ∷ RELEASE ∷ REFUND ∷ CLAIM ∷ REPLY ∷ OLD-DISPUTE ∷ FREEZE ∷ CAPS ∷ CLOSE ∷ []
 
 abbrev pub clear : Submission → ℕ → Bool
 clear s k = eqb (bit k (s .flags)) 0
@@ -110,9 +113,17 @@ notEmpty L id =
     || (ltb 0 (walletOf L id LOCKED)
     || openTo (L .edition .escrow) (L .escrows) (escrowCount L) id))
 
--- the requester's replies to a claim
+-- the requester's reply to a claim, and whether it disputes; one that doesn't accepts
+abbrev pub replyingBy : Form → List ℕ
+replyingBy Old = OLD-ACCEPT ∷ OLD-DISPUTE ∷ []
+replyingBy Today = REPLY ∷ []
+
+abbrev pub disputesBy : Form → Submission → Bool
+disputesBy Old s = eqb (s .op) OLD-DISPUTE
+disputesBy Today s = eqb (s .op) REPLY && clear s ACCEPTS
+
 abbrev pub replying : List ℕ
-replying = ACCEPT ∷ DISPUTE ∷ []
+replying = replyingBy Today
 
 -- the lent tables and the record
 unfoldable pub entryRefusals : Ledger → Read → List Refusal
@@ -136,8 +147,8 @@ envelopeRefusals L s =
     ∷ []
 
 -- what the operation asks for
-unfoldable pub operationRefusals : Ledger → Submission → List Refusal
-operationRefusals L s =
+unfoldable pub operationRefusalsBy : Form → Ledger → Submission → List Refusal
+operationRefusalsBy form L s =
     row 12
     (on s (GRANT ∷ TRANSFER ∷ OPEN ∷ []) (not (between 1 MAX-AMOUNT-MICRO (s .amount)))
     || (on s (SWEEP ∷ []) (not (between 1 MAX-SWEEP-ROWS (s .amount)))
@@ -166,11 +177,11 @@ operationRefusals L s =
     ∷ row 30
     (linked s (ofEscrow L (s .link) (not (eqb (escrow L (s .link - 1) FROM) (s .target)) || not (eqb (escrow L (s .link - 1) TO) (s .signer)))))
     ∷ row 31 (linked s (ofEscrow L (s .link) (ltb (escrow L (s .link - 1) ESCROW-DEADLINE) (s .until))))
-    ∷ row 32 (on s replying (not (written (receiptCount L) (s .target))))
-    ∷ row 33 (on s replying (ofReceipt L (s .target) (not (eqb (s .signer) (receipt L (s .target - 1) REQUESTER)))))
-    ∷ row 34 (on s replying (ofReceipt L (s .target) (not (eqb (receipt L (s .target - 1) RECEIPT-STATE) PENDING))))
-    ∷ row 41 (on s replying (ofReceipt L (s .target) (ltb (receipt L (s .target - 1) ACCEPTANCE-DEADLINE) (s .now))))
-    ∷ row 35 (on s (DISPUTE ∷ []) (clear s REASON-GIVEN))
+    ∷ row 32 (on s (replyingBy form) (not (written (receiptCount L) (s .target))))
+    ∷ row 33 (on s (replyingBy form) (ofReceipt L (s .target) (not (eqb (s .signer) (receipt L (s .target - 1) REQUESTER)))))
+    ∷ row 34 (on s (replyingBy form) (ofReceipt L (s .target) (not (eqb (receipt L (s .target - 1) RECEIPT-STATE) PENDING))))
+    ∷ row 41 (on s (replyingBy form) (ofReceipt L (s .target) (ltb (receipt L (s .target - 1) ACCEPTANCE-DEADLINE) (s .now))))
+    ∷ row 35 (disputesBy form s && clear s REASON-GIVEN)
     ∷ row 36 (on s (GRANT ∷ []) (ltb MAX-GRANTED-MICRO (head L GRANTED + s .amount)))
     ∷ row 37 (on s (GRANT ∷ TRANSFER ∷ OPEN ∷ []) (not (hasWallet L (s .target)) && full WALLET-LEN (L .wallets) (walletCount L)))
     ∷ row 38 (on s (OPEN ∷ []) (full (L .edition .escrow) (L .escrows) (escrowCount L)))
@@ -178,6 +189,12 @@ operationRefusals L s =
     ∷ row 40 (on s signed (full JOURNAL-LEN (L .journal) (entryCount L)))
     ∷ []
 
+abbrev pub operationRefusals : Ledger → Submission → List Refusal
+operationRefusals = operationRefusalsBy Today
+
 -- THE TABLE
-unfoldable pub refusals : Ledger → Read → List Refusal
-refusals L r = entryRefusals L r ++ (envelopeRefusals L (r .submission) ++ operationRefusals L (r .submission))
+unfoldable pub refusalsBy : Form → Ledger → Read → List Refusal
+refusalsBy form L r = entryRefusals L r ++ (envelopeRefusals L (r .submission) ++ operationRefusalsBy form L (r .submission))
+
+abbrev pub refusals : Ledger → Read → List Refusal
+refusals = refusalsBy Today

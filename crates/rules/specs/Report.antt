@@ -10,9 +10,10 @@ use Rattle.rules.specs.Limits.{LAST-OPERATION, GRID-ROWS, ANSWERS, LAST-
 use Rattle.rules.specs.Limits.{GRANT, TRANSFER, ESCROW-AMOUNT, ESCROW-STATE, IS-OPEN, RELEASED, REFUNDED, EXPIRED}
 use Rattle.rules.specs.Table.{sum}
 use Rattle.rules.specs.Ledger.{Ledger, Outcome, escrow, escrowCount, lengthsRight, fresh}
-use Rattle.rules.specs.Record.{decode, readOf}
+use Rattle.rules.specs.Record.{inForm, decode, readOf}
 use Rattle.rules.specs.Recording.{Entry, entriesOf}
 use Rattle.rules.specs.Replay.{Rule, Next, on, stop-before, Gone, through}
+use Rattle.rules.specs.declared.Form.the-variants.{Today}
 use Rattle.rules.specs.declared.Submission.{Submission}
 
 -- ---- The grid, and the report so far
@@ -47,9 +48,9 @@ hasNamed R = not (eqb (getD (R .named) NAMED-FIGURE 0) 0)
 
 -- ---- What an entry is in it
 
--- "one row for every operation and a row 0 for records whose operation byte is none of them"
+-- "one row for every operation and a row 0 for records whose operation byte is none of them". Operation 8 is "counted in the grid's row 0"; row 8 stays
 abbrev pub gridRow : ℕ → ℕ
-gridRow op = cond (leb op LAST-OPERATION) op 0
+gridRow op = cond (leb op LAST-OPERATION && inForm Today op) op 0
 
 -- the amount of a submission of this operation that settled
 abbrev pub settledOf : ℕ → Submission → ℕ → ℕ

@@ -23,6 +23,7 @@ use Rattle.rules.specs.Wallets.{standingOf}
 use Rattle.rules.specs.Status.{statuses, statusOf}
 use Rattle.rules.specs.Replay.{gone, told, replay}
 use Rattle.rules.specs.Report.{Report, telling, report}
+use Rattle.rules.specs.Convert.{converted}
 use Rattle.rules.specs.Promises.{none, IsFirst, Stands}
 use Rattle.rules.specs.declared.Submission.{Submission}
 use Rattle.rules.specs.declared.Read.{Read}
@@ -82,6 +83,7 @@ pub data Result : Type 0 where
   by-read : (bytes : List ℕ) (answer : Read) → Result
   by-write : (s : Submission) (out left : List ℕ) (number : ℕ) → Result
   by-status : (number status : ℕ) → Result
+  by-convert : (recording left : List ℕ) → Result
 
 -- a lookup finds what the definitions find
 abbrev pub Finds-as : Edition → Pair → Looked → Type 0
@@ -102,6 +104,7 @@ Meets e (by-lookup lent left looked) = (left ≡ lent) × Finds-as e lent looked
 Meets e (by-read bytes answer) = answer ≡ readOf bytes
 Meets e (by-write s out left number) = _≡_ {A = Written} (record { number = number; out = left }) (writeOf s out)
 Meets e (by-status number status) = status ≡ statusOf number
+Meets e (by-convert recording left) = left ≡ converted recording
 
 -- ---- Demand 1 of a result: its answer is on the list, and a refusal answers the word 0 and changes nothing
 
@@ -132,6 +135,8 @@ Listed e (by-lookup lent left looked) = (left ≡ lent) × Part-of e (lent .tabl
 Listed e (by-read bytes answer) = (answer .number ≡ 0) ⊎ ((answer .number ≡ 3) × (answer .submission ≡ nothing))
 Listed e (by-write s out left number) = (number ≡ 0) ⊎ ((number ≡ 3) × (left ≡ out))
 Listed e (by-status number status) = length statuses ≤ number → status ≡ 500
+-- the converter refuses nothing, and has no answer but the bytes
+Listed e (by-convert recording left) = length left ≡ length recording
 
 -- ---- Demand 2 of a result: settled exactly when no check refuses, and then as laid down; otherwise the first refusal
 
@@ -150,3 +155,4 @@ DecidedBy (by-lookup lent left looked) = Unit {0}
 DecidedBy (by-read bytes answer) = Unit {0}
 DecidedBy (by-write s out left number) = Unit {0}
 DecidedBy (by-status number status) = Unit {0}
+DecidedBy (by-convert recording left) = Unit {0}

@@ -18,7 +18,7 @@ use Rattle.rules.specs.Submit.{submit}
 use Rattle.rules.specs.History.{Event, submitted, begun, Said, unbroken}
 use Rattle.rules.specs.Promises.{Adds-up, Same-lengths, started}
 use Rattle.rules.specs.Same.{Same-written}
-use Rattle.rules.specs.Results.{Looked, wallet-standing, escrow-place, escrow-row, receipt-place, receipt-row, Result, by-fresh, by-submit, by-replay, by-report, by-lookup, by-read, by-write, by-status, Meets, Listed, DecidedBy}
+use Rattle.rules.specs.Results.{Looked, wallet-standing, escrow-place, escrow-row, receipt-place, receipt-row, Result, by-fresh, by-submit, by-replay, by-report, by-lookup, by-read, by-write, by-status, by-convert, Meets, Listed, DecidedBy}
 use Rattle.rules.specs.declared.Answer.{Answer}
 use Rattle.rules.specs.declared.Verdict.{Verdict}
 
@@ -47,6 +47,7 @@ LentOf (by-lookup lent left looked) L = (lent .header ≡ L .header) × (lent .t
 LentOf (by-read bytes answer) L = Unit {0}
 LentOf (by-write s out left number) L = Unit {0}
 LentOf (by-status number status) L = Unit {0}
+LentOf (by-convert recording left) L = Unit {0}
 
 -- the ledger, with those slices as the call left them
 abbrev pub leftBy : Result → Ledger → Ledger
@@ -58,6 +59,7 @@ leftBy (by-lookup lent left looked) L = setHeader (left .header) (setAsked looke
 leftBy (by-read bytes answer) L = L
 leftBy (by-write s out left number) L = L
 leftBy (by-status number status) L = L
+leftBy (by-convert recording left) L = L
 
 -- the first n entries of a recording as they were replayed: each with the answer recorded, but the last of them with that of the core if it
 -- disagrees
@@ -84,6 +86,7 @@ submittedBy (by-lookup lent left looked) = []
 submittedBy (by-read bytes answer) = []
 submittedBy (by-write s out left number) = []
 submittedBy (by-status number status) = []
+submittedBy (by-convert recording left) = []
 
 -- the same, as events
 abbrev pub events : List Entry → List Event
@@ -103,6 +106,7 @@ heardOf (by-lookup lent left looked) = []
 heardOf (by-read bytes answer) = []
 heardOf (by-write s out left number) = []
 heardOf (by-status number status) = []
+heardOf (by-convert recording left) = []
 
 -- what a host has recorded of that: the records of 108 bytes, with their answers. Bytes of another length are refused and cannot be an entry.
 abbrev pub recorded : List Entry → List Entry

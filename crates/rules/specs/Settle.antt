@@ -1,10 +1,11 @@
--- Section "What settling does": small moves on the ledger first, then each operation over them, the sweep by its own rule, and the journal.
+-- Section "What settling does": small moves on the ledger first, then each operation over them, the sweep by its own rule, and the journal. What
+-- operations 7 and 8 do is the form's; a name without a form is today's.
 use mathlib.Core.List.{List, [], _∷_}
 use mathlib.Core.Bool.{Bool, cond, _&&_}
 use Prim.Native.Nat.{ℕ, _+_, _-_}
 use lib.ListN.{getD}
 use lib.Dec.{eqb, ltb}
-use Rattle.rules.specs.Limits.{DEFAULT-TX-CAP-MICRO, DEFAULT-DAILY-CAP-MICRO, AUTO-OR-FREEZE, SWEEP, RELEASE-IMPOSSIBLE}
+use Rattle.rules.specs.Limits.{DEFAULT-TX-CAP-MICRO, DEFAULT-DAILY-CAP-MICRO, AUTO-OR-FREEZE, ACCEPTS, SWEEP, RELEASE-IMPOSSIBLE}
 use Rattle.rules.specs.Limits.{SYSTEM-FROZEN, CLOCK, GRANTED, BALANCE, LOCKED, FROZEN, TX-CAP, DAILY-CAP, IS-CLOSED, IS-OPEN, RELEASED, REFUNDED, EXPIRED}
 use Rattle.rules.specs.Limits.{FROM, TO, ESCROW-AMOUNT, ESCROW-DEADLINE, ESCROW-STATE, ESCROW-CLOSED-AT, ESCROW-CLOSED-BY}
 use Rattle.rules.specs.Limits.{RECEIPT-LINK, ACCEPTANCE-DEADLINE, AUTO-ACCEPT, RECEIPT-STATE, RECEIPT-CLOSED-AT, RECEIPT-CLOSED-BY, RELEASE-CODE}
@@ -13,7 +14,9 @@ use Rattle.rules.specs.Table.{loop}
 use Rattle.rules.specs.Ledger.{Ledger, head, wallet, escrow, receipt, escrowCount, receiptCount, walletRow, hasWallet}
 use Rattle.rules.specs.Ledger.{putHead, putWallet, putEscrow, putReceipt, newWallet, newEscrow, newReceipt, newEntry}
 use Rattle.rules.specs.Record.{bit}
-use Rattle.rules.specs.Refusals.{releasable}
+use Rattle.rules.specs.Refusals.{clear, releasable}
+use Rattle.rules.specs.declared.Form.{Form}
+use Rattle.rules.specs.declared.Form.the-variants.{Old, Today}
 use Rattle.rules.specs.declared.Submission.{Submission}
 
 -- more and less in a word of the wallet of id
@@ -138,6 +141,10 @@ accept s L = acceptRow (s .now) (s .signer) (s .target - 1) L
 unfoldable pub dispute : Submission → Ledger → Done
 dispute s L = done 0 (closeReceipt DISPUTED (s .now) (s .signer) (s .target - 1) L)
 
+-- "operation 7 with bit 2 for accept, clear for dispute"
+unfoldable pub reply : Submission → Ledger → Done
+reply s L = cond (clear s ACCEPTS) (dispute s L) (accept s L)
+
 unfoldable pub sweep : Submission → Ledger → Done
 sweep s L = done (swept (s .now) (s .amount) L .closed) (swept (s .now) (s .amount) L .tables)
 
@@ -154,16 +161,31 @@ caps s L =
 unfoldable pub close : Submission → Ledger → Done
 close s L = done 0 (putWallet (walletRow L (s .target)) FROZEN IS-CLOSED L)
 
--- the operations by their numbers, from 1 on
-abbrev pub operations : List (Submission → Ledger → Done)
-operations =
-    grant ∷ transfer ∷ openEscrow ∷ release ∷ refund ∷ claim ∷ accept ∷ dispute ∷ sweep ∷ freeze ∷ caps ∷ close ∷ []
-
+-- what is no operation: no well-formed record has it
 abbrev pub idle : Submission → Ledger → Done
 idle s L = done 0 L
 
-unfoldable pub operate : Submission → Ledger → Done
-operate s = getD operations (s .op - 1) idle s
+abbrev pub does7 : Form → Submission → Ledger → Done
+does7 Old = accept
+does7 Today = reply
+
+abbrev pub does8 : Form → Submission → Ledger → Done
+does8 Old = dispute
+does8 Today = idle
+
+-- the operations by their numbers, from 1 on
+abbrev pub operationsBy : Form → List (Submission → Ledger → Done)
+operationsBy form =
+    grant ∷ transfer ∷ openEscrow ∷ release ∷ refund ∷ claim ∷ does7 form ∷ does8 form ∷ sweep ∷ freeze ∷ caps ∷ close ∷ []
+
+unfoldable pub operateBy : Form → Submission → Ledger → Done
+operateBy form s = getD (operationsBy form) (s .op - 1) idle s
+
+abbrev pub operations : List (Submission → Ledger → Done)
+operations = operationsBy Today
+
+abbrev pub operate : Submission → Ledger → Done
+operate = operateBy Today
 
 -- all but a sweep add one journal row
 abbrev pub entryOf : Submission → ℕ → List ℕ
@@ -173,5 +195,8 @@ unfoldable pub enter : Submission → ℕ → Ledger → Ledger
 enter s word L = cond (eqb (s .op) SWEEP) L (newEntry (entryOf s word) L)
 
 -- SETTLING: the operation, then the clock, then the journal
-unfoldable pub settle : Submission → Ledger → Done
-settle s L = let d = operate s L in done (d .word) (enter s (d .word) (putHead CLOCK (s .now) (d .after)))
+unfoldable pub settleBy : Form → Submission → Ledger → Done
+settleBy form s L = let d = operateBy form s L in done (d .word) (enter s (d .word) (putHead CLOCK (s .now) (d .after)))
+
+abbrev pub settle : Submission → Ledger → Done
+settle = settleBy Today

@@ -2,14 +2,14 @@
 use mathlib.Core.Path.{_≡_}
 use mathlib.Core.Logic.{_≢_}
 use mathlib.Core.List.{List}
-use mathlib.Core.Bool.{Bool, true, cond, not, _&&_}
+use mathlib.Core.Bool.{Bool, true, false, cond, not, _&&_}
 use Prim.Native.Nat.{ℕ, _-_, _≤_, _<_}
 use lib.Dec.{eqb}
-use Rattle.rules.specs.Limits.{ACCEPT, ESCROW-DEADLINE, ESCROW-STATE, IS-OPEN, RELEASE-IMPOSSIBLE}
+use Rattle.rules.specs.Limits.{REPLY, ACCEPTS, ESCROW-DEADLINE, ESCROW-STATE, IS-OPEN, RELEASE-IMPOSSIBLE}
 use Rattle.rules.specs.Limits.{REQUESTER, RECEIPT-LINK, ACCEPTANCE-DEADLINE, RECEIPT-STATE, RELEASE-CODE, PENDING}
 use Rattle.rules.specs.Ledger.{Ledger, escrow, receipt, receiptCount, written}
 use Rattle.rules.specs.Record.{readOf}
-use Rattle.rules.specs.Refusals.{oneOf, replying}
+use Rattle.rules.specs.Refusals.{oneOf, clear, replying}
 use Rattle.rules.specs.Submit.{submit}
 use Rattle.rules.specs.History.{Call, after}
 use Rattle.rules.specs.Promises.{Lent, started, Refused}
@@ -52,4 +52,5 @@ pub record Accepted-in-time (L : Ledger) (b : List ℕ) (i : ℕ) : Type 0 where
 abbrev pub Accepts-in-time : Type 0
 Accepts-in-time =
     (L : Ledger) → Lent L → (calls : List Call) (b : List ℕ) → submit (after (started L) calls) b .number ≡ 0 →
-    readOf b .submission .op ≡ ACCEPT → Accepted-in-time (after (started L) calls) b (readOf b .submission .target - 1)
+    readOf b .submission .op ≡ REPLY → clear (readOf b .submission) ACCEPTS ≡ false →
+    Accepted-in-time (after (started L) calls) b (readOf b .submission .target - 1)

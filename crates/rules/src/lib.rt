@@ -29,6 +29,14 @@ pub struct Submission {
     pub hash3: u64,
 }
 
+// The form of a record: which records are well formed, and what operations 7 and 8 do.
+pub enum Form {
+    // As it was before document 02, request 7: 7 is an accept, and 8 a dispute.
+    Old,
+    // 7 is the reply to a claim, and there is no 8.
+    Today,
+}
+
 // What reading a record finds: 0 and its fields, or 3 and zeros.
 #[repr(C)]
 pub struct Read {

@@ -180,9 +180,8 @@ pub const REFUND: u8 = 5;
 
 pub const CLAIM: u8 = 6;
 
-pub const ACCEPT: u8 = 7;
-
-pub const DISPUTE: u8 = 8;
+// An accept or a dispute, by bit 2.
+pub const REPLY: u8 = 7;
 
 pub const SWEEP: u8 = 9;
 
@@ -191,6 +190,11 @@ pub const FREEZE: u8 = 10;
 pub const CAPS: u8 = 11;
 
 pub const CLOSE: u8 = 12;
+
+// What 7 and 8 are in the old form; today there is no operation 8.
+pub const OLD_ACCEPT: u8 = 7;
+
+pub const OLD_DISPUTE: u8 = 8;
 
 // The last of them. The month's report has row 0 and a row for every operation: a later operation widens it here.
 pub const LAST_OPERATION: u8 = CLOSE;
@@ -208,6 +212,9 @@ pub const SIGNATURE_HELD: u8 = 1;
 pub const ADMIN: u8 = 2;
 
 pub const AUTO_OR_FREEZE: u8 = 4;
+
+// The same bit of a reply.
+pub const ACCEPTS: u8 = 4;
 
 pub const REASON_GIVEN: u8 = 8;
 
@@ -283,5 +290,7 @@ pub const TOLD_NUMBER: usize = 0;
 
 pub const TOLD_ENTRIES: usize = 1;
 
-// Where a record has its operation.
+// Where a record has its operation, and its flags.
 pub const OPERATION_AT: usize = 2;
+
+pub const FLAGS_AT: usize = 3;

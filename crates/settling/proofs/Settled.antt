@@ -8,7 +8,7 @@ use borrow.Author.Tests.{eq-eqb, ne-eqb}
 use Rattle.rules.specs.Limits.{JOURNAL-LEN, MAX-ENTRIES, CLOCK, ENTRIES, SWEEP}
 use Rattle.rules.specs.Table.{putRow}
 use Rattle.rules.specs.Ledger.{Ledger, ledgerOf, setHeader, setJournal, putHead, newEntry}
-use Rattle.rules.specs.Settle.{Done, done, operations, idle, operate, entryOf, enter, settle}
+use Rattle.rules.specs.Settle.{Done, done, operations, idle, operateBy, operate, entryOf, enter, settleBy, settle}
 use Rattle.rules.specs.declared.Edition.{Edition}
 use Rattle.rules.specs.declared.Submission.{Submission}
 use Rattle.rules.proofs.Keeps.{Keeps, keeps-before}
@@ -18,7 +18,7 @@ use Rattle.settling.proofs.Facts.{small, entries-small}
 
 -- what the operation of number k leaves
 pub operated : (k : ℕ) (s : Submission) (L : Ledger) (d : Done) → s .op ≡ k → d ≡ getD operations (k - 1) idle s L → d ≡ operate s L
-unfolding operate
+unfolding operateBy
 operated k s L d o x = x ∙ ap (λ (n : ℕ). getD operations (n - 1) idle s L) (sym o)
 
 -- a sweep adds no row, any other operation one
@@ -57,5 +57,5 @@ module _ (ed : Edition) (h w e r j h₁ w₁ e₁ r₁ : List ℕ) (s : Submissi
       (h₂ j₂ : List ℕ)
       → ((K : Ledger) → setJournal j₂ (setHeader h₂ K) ≡ enter s word (setJournal j (setHeader (set h₁ CLOCK (s .now)) K)))
       → done word (ledgerOf ed h₂ w₁ e₁ r₁ j₂) ≡ settle s (ledgerOf ed h w e r j)
-  unfolding settle putHead
+  unfolding settleBy putHead
   settled-by h₂ j₂ x = rw (← q (ledgerOf ed h w e r j), x (ledgerOf ed h w₁ e₁ r₁ j))
