@@ -2,21 +2,21 @@
 -- definition adds.
 use mathlib.Core.Path.{_≡_, ap, _∙_}
 use mathlib.Core.List.{List, [], _∷_}
-use mathlib.Core.Bool.{true}
+use mathlib.Core.Bool.{true, false}
 use Prim.Native.Nat.{ℕ, _-_, _<_, _^_}
 use lib.ListN.{replicate, length-replicate}
 use lib.Dec.{lit<}
-use Rattle.rules.specs.Limits.{MAX-ESCROWS, ESCROW-AMOUNT, GRANT, TRANSFER, RELEASE, REFUND, ACCEPT, DISPUTE, SWEEP}
+use Rattle.rules.specs.Limits.{MAX-ESCROWS, ESCROW-AMOUNT, GRANT, TRANSFER, RELEASE, REFUND, REPLY, ACCEPTS, SWEEP}
 use Rattle.rules.specs.Table.{word}
 use Rattle.rules.specs.Ledger.{Ledger, ledgerOf, outcome, escrowCount}
-use Rattle.rules.specs.Refusals.{oneOf, closing}
+use Rattle.rules.specs.Refusals.{oneOf, clear, closing, replying}
 use Rattle.rules.specs.Settle.{settle, swept}
 use Rattle.rules.specs.Report.{addsOf}
 use Rattle.rules.specs.declared.Edition.{Edition}
 use Rattle.rules.specs.declared.Submission.{Submission}
 use Rattle.rules.proofs.Rows.{zeros}
 use Rattle.rules.proofs.Passed.{escrow-row, escrow-open, receipt-row}
-use Rattle.rules.proofs.Adds.{figures, adds-grant, adds-transfer, adds-release, adds-refund, adds-accept, adds-sweep, adds-other}
+use Rattle.rules.proofs.Adds.{figures, adds-grant, adds-transfer, adds-release, adds-refund, adds-dispute, adds-accept, adds-sweep, adds-other}
 use Rattle.rows.specs.Numbered.{Names}
 use Rattle.settling.specs.Needs.{Settles}
 use Rattle.settling.proofs.Facts as facts
@@ -40,8 +40,8 @@ module _ (ed : Edition) (h w e r j : List ℕ) (s : Submission) (p : Settles (le
   pub can-look : oneOf closing (s .op) ≡ true → Names (s .target) × (ed .escrow < 2 ^ 16) × (ESCROW-AMOUNT < 2 ^ 16)
   can-look t = (facts.ending ed h w e r j s p t .0, p .sized .small, lit< tt)
 
-  pub can-accept : s .op ≡ ACCEPT → Names (s .target) × Links ed r (s .target - 1)
-  can-accept o = let a = facts.accepting ed h w e r j s p o in (a .0, record { len = a .1 .len; link = a .1 .link })
+  pub can-accept : s .op ≡ REPLY → Names (s .target) × Links ed r (s .target - 1)
+  can-accept o = let a = facts.answering ed h w e r j s p o in (a .0, record { len = a .1 .len; link = a .1 .link })
 
   pub can-sweep : Sweeps ed h e r (s .now)
   can-sweep = record { wallets = w; sweeping = facts.swept ed h w e r j s p }
@@ -69,18 +69,21 @@ module _ (ed : Edition) (h w e r j : List ℕ) (s : Submission) (p : Settles (le
       ap (λ (n : ℕ). 0 ∷ 0 ∷ 0 ∷ n ∷ 0 ∷ []) q
       ∙ adds-refund _ s L (facts.good ed h w e r j s p) (row t) (escrow-open L (facts.read ed h w e r j s p) (facts.answered ed h w e r j s p) t) o
 
-  pub accepted : (x : ℕ) → s .op ≡ ACCEPT → x ≡ freed ed e r (s .now) (s .target - 1) → 0 ∷ 0 ∷ x ∷ 0 ∷ 0 ∷ [] ≡ added
+  pub disputed : s .op ≡ REPLY → clear s ACCEPTS ≡ true → 0 ∷ 0 ∷ 0 ∷ 0 ∷ 0 ∷ [] ≡ added
+  disputed o c = adds-dispute _ s L o c
+
+  pub accepted : (x : ℕ) → s .op ≡ REPLY → clear s ACCEPTS ≡ false → x ≡ freed ed e r (s .now) (s .target - 1) → 0 ∷ 0 ∷ x ∷ 0 ∷ 0 ∷ [] ≡ added
   unfolding freed
-  accepted x o q =
+  accepted x o c q =
       ap (λ (n : ℕ). 0 ∷ 0 ∷ n ∷ 0 ∷ 0 ∷ []) q
       ∙ adds-accept _ s L (facts.good ed h w e r j s p)
-      (receipt-row L (facts.read ed h w e r j s p) (facts.answered ed h w e r j s p) (ap (oneOf (ACCEPT ∷ DISPUTE ∷ [])) o)) o
+      (receipt-row L (facts.read ed h w e r j s p) (facts.answered ed h w e r j s p) (ap (oneOf replying) o)) o c
 
   pub sweeps : (xs : List ℕ) → s .op ≡ SWEEP → xs ≡ figures 0 0 L (swept (s .now) (s .amount) L .tables) → xs ≡ added
   sweeps xs o q = q ∙ adds-sweep _ s L o
 
-  pub nothing : (s .op ≡ GRANT → ⊥) → (s .op ≡ TRANSFER → ⊥) → (s .op ≡ RELEASE → ⊥) → (s .op ≡ REFUND → ⊥) → (s .op ≡ ACCEPT → ⊥) → (s .op ≡ SWEEP → ⊥)
+  pub nothing : (s .op ≡ GRANT → ⊥) → (s .op ≡ TRANSFER → ⊥) → (s .op ≡ RELEASE → ⊥) → (s .op ≡ REFUND → ⊥) → (s .op ≡ REPLY → ⊥) → (s .op ≡ SWEEP → ⊥)
       → 0 ∷ 0 ∷ 0 ∷ 0 ∷ 0 ∷ [] ≡ added
   nothing n1 n2 n4 n5 n7 n9 =
       let f = facts.formed ed h w e r j s p in
-      adds-other _ s L (p .sized .escrow) (f .low) (f .high) n1 n2 n4 n5 n7 n9
+      adds-other _ s L (p .sized .escrow) (f .low) (f .high) (f .not-8) n1 n2 n4 n5 n7 n9

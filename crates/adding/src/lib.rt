@@ -5,8 +5,8 @@ use rules::Edition;
 use rules::EscrowNumber;
 use rules::ReceiptNumber;
 use rules::Submission;
-use rules::limits::ACCEPT;
 use rules::limits::ACCEPTANCE_DEADLINE;
+use rules::limits::ACCEPTS;
 use rules::limits::AUTO_ACCEPT;
 use rules::limits::ESCROW_AMOUNT;
 use rules::limits::ESCROW_DEADLINE;
@@ -22,6 +22,7 @@ use rules::limits::RECEIPT_STATE;
 use rules::limits::RECEIPTS;
 use rules::limits::REFUND;
 use rules::limits::RELEASE;
+use rules::limits::REPLY;
 use rules::limits::SWEEP;
 use rules::limits::TRANSFER;
 ghost use mathlib.Core.Path.{_≡_};
@@ -242,12 +243,16 @@ pub fn adds(
             let amount = numbered::escrow(edition, escrows, EscrowNumber(s.target), ESCROW_AMOUNT);
             [0, 0, 0, amount, 0]
         },
-        ACCEPT => {
+        REPLY => {
+            // a dispute
+            if s.flags / ACCEPTS % 2 == 0 {
+                return [0, 0, 0, 0, 0];
+            }
             let amount = accepted(edition, escrows, receipts, ReceiptNumber(s.target), s.now);
             [0, 0, amount, 0, 0]
         },
         SWEEP => sweep_adds(edition, header, escrows, receipts, s.now, s.amount),
-        // an open, a claim, a dispute, a freeze, new caps and a close
+        // an open, a claim, a freeze, new caps and a close
         _ => [0, 0, 0, 0, 0],
     }
 }

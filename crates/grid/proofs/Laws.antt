@@ -1,22 +1,25 @@
 -- The row of an operation byte, and the first figure that passes, over plain values: what the code's tests come to.
 use mathlib.Core.Path.{_≡_, refl}
 use mathlib.Core.List.{List, [], _∷_, _++_}
-use mathlib.Core.Bool.{Bool, cond}
-use Prim.Native.Nat.{ℕ, _+_, _≤_, _<_}
+use mathlib.Core.Bool.{Bool, true, false, not, cond, _&&_}
+use Prim.Native.Nat.{ℕ, _+_, _≤_}
 use native.Mathlib.Omega.{arith}
-use lib.Dec.{ltb}
+use lib.Dec.{eqb, ltb, leb}
 use lib.ListN.{getD}
 use mir.Syntax.{w64}
 use mir.Val.{Fits}
-use borrow.Author.Tests.{le-leb, lt-leb}
-use Rattle.rules.specs.Limits.{LAST-OPERATION, LAST-FIGURE}
+use Rattle.rules.specs.Limits.{OLD-DISPUTE, LAST-OPERATION, LAST-FIGURE}
 use Rattle.rules.specs.Report.{gridRow, sums, firstPast}
 
-pub row-in : (op : ℕ) → op ≤ LAST-OPERATION → op ≡ gridRow op
-row-in op h = rw (le-leb _ _ h)
+-- the code's test of an operation
+abbrev isRow : ℕ → Bool
+isRow op = leb op LAST-OPERATION && not (eqb op OLD-DISPUTE)
 
-pub row-out : (op : ℕ) → LAST-OPERATION < op → 0 ≡ gridRow op
-row-out op h = rw (lt-leb _ _ h)
+pub row-in : (op : ℕ) → isRow op ≡ true → op ≡ gridRow op
+row-in op h = rw h
+
+pub row-out : (op : ℕ) → isRow op ≡ false → 0 ≡ gridRow op
+row-out op h = rw h
 
 -- whether each figure passes, in order, and the cell last; then the first of them, chosen from the last to the first
 pub record Past (figures adds : List ℕ) (count : ℕ) (g t r f e n : Bool) : Type 0 where

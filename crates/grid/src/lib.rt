@@ -19,15 +19,20 @@ use rules::limits::NAMED_GRANTED;
 use rules::limits::NAMED_REFUNDED;
 use rules::limits::NAMED_RELEASED;
 use rules::limits::NAMED_TRANSFERRED;
+use rules::limits::OLD_DISPUTE;
 use rules::limits::REFUNDED_SUM;
 use rules::limits::RELEASED_SUM;
 use rules::limits::TRANSFERRED_SUM;
 
-// The row of an operation byte: its own, or row 0 where it is no operation.
+// The row of an operation byte: its own, or row 0 where it is no operation. Operation 8 is none today.
 pub fn row_of(op: u8) -> usize
     ensures { λ x. ⌜ x ≡ gridRow op ⌝ }
 {
-    if op <= LAST_OPERATION { op as usize } else { 0 }
+    if (op <= LAST_OPERATION) & (op != OLD_DISPUTE) {
+        op as usize
+    } else {
+        0
+    }
 }
 
 // The count in a cell.

@@ -1,13 +1,12 @@
--- An accept or a dispute: the rows that the table of refusals leaves for it, and that the picks of its group are the first of them. The
+-- A reply to a claim: the rows that the table of refusals leaves for it, and that the picks of its group are the first of them. The
 -- hypotheses of the law are what the calls ensure, in their order.
 use mathlib.Core.Path.{_≡_, sym, _∙_}
 use mathlib.Core.List.{List, [], _∷_}
-use mathlib.Core.Logic.{_⊎_, ⊎-elim}
 use mathlib.Core.Bool.{not, cond, _&&_}
 use Prim.Native.Nat.{ℕ, _-_}
 use lib.ListN.{getD}
 use lib.Dec.{eqb, ltb}
-use Rattle.rules.specs.Limits.{RECEIPT-LEN, JOURNAL-LEN, ACCEPT, DISPUTE, REASON-GIVEN, RECEIPTS, ENTRIES}
+use Rattle.rules.specs.Limits.{RECEIPT-LEN, JOURNAL-LEN, REPLY, ACCEPTS, REASON-GIVEN, RECEIPTS, ENTRIES}
 use Rattle.rules.specs.Limits.{REQUESTER, ACCEPTANCE-DEADLINE, RECEIPT-STATE, PENDING}
 use Rattle.rules.specs.Table.{word}
 use Rattle.rules.specs.Ledger.{Ledger, ledgerOf, receipt, receiptCount, entryCount, written, full}
@@ -17,33 +16,29 @@ use Rattle.rules.specs.declared.Submission.{Submission}
 use Rattle.holds.specs.Named.{named}
 use Rattle.holds.proofs.Numbers.{at-row}
 
-unfoldable pub ofReply : Ledger → Submission → List Refusal
+unfoldable ofReply : Ledger → Submission → List Refusal
 ofReply L s =
     row 32 (not (written (receiptCount L) (s .target)))
     ∷ row 33 (ofReceipt L (s .target) (not (eqb (s .signer) (receipt L (s .target - 1) REQUESTER))))
     ∷ row 34 (ofReceipt L (s .target) (not (eqb (receipt L (s .target - 1) RECEIPT-STATE) PENDING)))
     ∷ row 41 (ofReceipt L (s .target) (ltb (receipt L (s .target - 1) ACCEPTANCE-DEADLINE) (s .now)))
-    ∷ row 35 (eqb (s .op) DISPUTE && clear s REASON-GIVEN)
+    ∷ row 35 (clear s ACCEPTS && clear s REASON-GIVEN)
     ∷ row 40 (full JOURNAL-LEN (L .journal) (entryCount L))
     ∷ []
 
-pub accept-rows : (L : Ledger) (s : Submission) → s .op ≡ ACCEPT → first (operationRefusals L s) ≡ first (ofReply L s)
+reply-rows : (L : Ledger) (s : Submission) → s .op ≡ REPLY → first (operationRefusals L s) ≡ first (ofReply L s)
 unfolding operationRefusalsBy ofReply
-accept-rows L s o = simp o
-
-pub dispute-rows : (L : Ledger) (s : Submission) → s .op ≡ DISPUTE → first (operationRefusals L s) ≡ first (ofReply L s)
-unfolding operationRefusalsBy ofReply
-dispute-rows L s o = simp o
+reply-rows L s o = simp o
 
 pub reply-by :
     (ed : Edition) (h w e r j : List ℕ) (s : Submission) (number requester deadline state r32 r33 r34 r41 r35 r40 : ℕ)
-    → (s .op ≡ ACCEPT) ⊎ (s .op ≡ DISPUTE)
+    → s .op ≡ REPLY
     → number ≡ named (getD h RECEIPTS 0) (s .target)
     → requester ≡ word r RECEIPT-LEN (number - 1) REQUESTER
     → deadline ≡ word r RECEIPT-LEN (number - 1) ACCEPTANCE-DEADLINE
     → state ≡ word r RECEIPT-LEN (number - 1) RECEIPT-STATE
     → r40 ≡ cond (full JOURNAL-LEN j (getD h ENTRIES 0)) 40 0
-    → r35 ≡ cond (eqb (s .op) DISPUTE && clear s REASON-GIVEN) 35 r40
+    → r35 ≡ cond (clear s ACCEPTS && clear s REASON-GIVEN) 35 r40
     → r41 ≡ cond (written (getD h RECEIPTS 0) (s .target) && ltb deadline (s .now)) 41 r35
     → r34 ≡ cond (written (getD h RECEIPTS 0) (s .target) && not (eqb state PENDING)) 34 r41
     → r33 ≡ cond (written (getD h RECEIPTS 0) (s .target) && not (eqb (s .signer) requester)) 33 r34
@@ -55,4 +50,4 @@ reply-by ed h w e r j s number requester deadline state r32 r33 r34 r41 r35 r40 
     let y = at-row (getD h RECEIPTS 0) (s .target) number (λ i. not (eqb (word r RECEIPT-LEN i RECEIPT-STATE) PENDING)) a in
     let z = at-row (getD h RECEIPTS 0) (s .target) number (λ i. ltb (word r RECEIPT-LEN i ACCEPTANCE-DEADLINE) (s .now)) a in
     let picks : r32 ≡ first (ofReply (ledgerOf ed h w e r j) s) = cc in
-    picks ∙ sym (⊎-elim (accept-rows _ s) (dispute-rows _ s) o)
+    picks ∙ sym (reply-rows _ s o)

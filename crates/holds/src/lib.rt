@@ -1,9 +1,9 @@
-// Checks 15 to 43 of the operations on escrows and receipts: release and refund, claim, accept and dispute.
+// Checks 15 to 43 of the operations on escrows and receipts: release and refund, claim, the reply to a claim.
 ghost use mathlib.Core.Path.{_≡_};
 ghost use mathlib.Core.Logic.{_⊎_};
 ghost use Prim.Native.Nat.{_*_, _≤_, _<_};
 ghost use lib.ListN.{getD, length};
-ghost use Rattle.rules.specs.Limits.{WALLET-LEN, MAX-ESCROWS, MAX-RECEIPTS, LAST-TIME-MS, RELEASE, REFUND, CLAIM, ACCEPT, DISPUTE};
+ghost use Rattle.rules.specs.Limits.{WALLET-LEN, MAX-ESCROWS, MAX-RECEIPTS, LAST-TIME-MS, RELEASE, REFUND, CLAIM, REPLY};
 ghost use Rattle.rules.specs.Limits.{WALLETS, ESCROWS, RECEIPTS, ENTRIES};
 ghost use Rattle.rules.specs.Ledger.{Ledger, Sized};
 ghost use Rattle.rules.specs.Moments.{lent, any, _of-edition_, _with-header_, _with-escrows_, _with-receipts_, _with-journal_};
@@ -16,8 +16,8 @@ use rules::ReceiptNumber;
 use rules::Submission;
 use rules::WalletState;
 use rules::limits::ACCEPTANCE_DEADLINE;
+use rules::limits::ACCEPTS;
 use rules::limits::ADMIN;
-use rules::limits::DISPUTE;
 use rules::limits::ENTRIES;
 use rules::limits::ESCROW_DEADLINE;
 use rules::limits::ESCROW_STATE;
@@ -161,9 +161,9 @@ pub fn claim_refusal(
     }
 }
 
-// An accept or a dispute: checks 32, 33, 34, 41, 35, 40, in this order.
+// A reply, an accept or a dispute: checks 32, 33, 34, 41, 35, 40, in this order. A dispute alone needs a reason.
 pub fn reply_refusal(header: &[u64], receipts: &[u64], journal: &[u64], s: Submission) -> u64
-    requires { ⌜ (ENTRIES < length (now header)) × (getD (now header) RECEIPTS 0 ≤ MAX-RECEIPTS) × ((s .op ≡ ACCEPT) ⊎ (s .op ≡ DISPUTE)) ⌝ }
+    requires { ⌜ (ENTRIES < length (now header)) × (getD (now header) RECEIPTS 0 ≤ MAX-RECEIPTS) × (s .op ≡ REPLY) ⌝ }
     ensures { λ x. ⌜ ((K : Ledger) → let L = any K with-header header with-receipts receipts with-journal journal in x ≡ first (operationRefusals (L .entry) s)) ⌝ }
 {
     let count = header[RECEIPTS];
@@ -176,7 +176,7 @@ pub fn reply_refusal(header: &[u64], receipts: &[u64], journal: &[u64], s: Submi
     let signer_not_authorized = there & (s.signer != requester);
     let not_pending = there & (state != PENDING);
     let acceptance_closed = there & (deadline < s.now);
-    let reason_required = (s.op == DISPUTE) & (s.flags / REASON_GIVEN % 2 == 0);
+    let reason_required = (s.flags / ACCEPTS % 2 == 0) & (s.flags / REASON_GIVEN % 2 == 0);
     let journal_table_full = journal.len() / JOURNAL_LEN <= entries;
     let r40 = rows::choose(journal_table_full, 40, 0);
     let r35 = rows::choose(reason_required, 35, r40);

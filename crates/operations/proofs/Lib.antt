@@ -3,3 +3,4 @@ pub mod Live
 pub mod Made
 pub mod Pays
 pub mod Sets
+pub mod Replies

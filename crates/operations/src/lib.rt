@@ -6,6 +6,7 @@ use rules::EscrowNumber;
 use rules::ReceiptNumber;
 use rules::Submission;
 use rules::WalletState;
+use rules::limits::ACCEPTS;
 use rules::limits::AUTO_OR_FREEZE;
 use rules::limits::BALANCE;
 use rules::limits::DAILY_CAP;
@@ -28,7 +29,7 @@ ghost use Rattle.rules.specs.Limits.{AUTO-OR-FREEZE};
 ghost use Rattle.rules.specs.Ledger.{Ledger};
 ghost use Rattle.rules.specs.Moments.{any, _of-edition_, _with-header_, _with-wallets_, _with-escrows_, _with-receipts_};
 ghost use Rattle.rules.specs.Record.{bit};
-ghost use Rattle.rules.specs.Settle.{done, grant, transfer, openEscrow, endEscrow, claim, accept, dispute, freeze, caps, close};
+ghost use Rattle.rules.specs.Settle.{done, grant, transfer, openEscrow, endEscrow, claim, accept, dispute, reply, freeze, caps, close};
 ghost use Rattle.rows.specs.Numbered.{Names};
 ghost use Rattle.moves.specs.Needs.{Ends, Accepts};
 ghost use Rattle.operations.specs.Needs.{Granting, Paying, Opening, Claiming, Naming, Freezing};
@@ -157,7 +158,7 @@ pub fn claim(header: &mut [u64], receipts: &mut [u64], s: Submission) -> u64
 }
 
 // Accept closes the receipt, and releases the escrow that it links if it can.
-pub fn accept(
+fn accept(
     edition: Edition,
     header: &[u64],
     wallets: &mut [u64],
@@ -182,13 +183,31 @@ pub fn accept(
 }
 
 // Dispute closes the receipt as disputed and moves no credits.
-pub fn dispute(receipts: &mut [u64], s: Submission) -> u64
+fn dispute(receipts: &mut [u64], s: Submission) -> u64
     requires { ⌜ Names (s .target) ⌝ }
     ensures { λ x. ⌜ ((K : Ledger) → let L = any K with-receipts receipts in done x (L .exit) ≡ dispute s (L .entry)) ⌝ }
 {
     let number = ReceiptNumber(s.target);
     moves::close_receipt(receipts, number, DISPUTED, s.now, s.signer);
     0
+}
+
+// A reply to a claim is an accept or a dispute, by bit 2.
+pub fn reply(
+    edition: Edition,
+    header: &[u64],
+    wallets: &mut [u64],
+    escrows: &mut [u64],
+    receipts: &mut [u64],
+    s: Submission,
+) -> u64
+    requires { ⌜ Names (s .target) × Accepts edition (now header) (now wallets) (now escrows) (now receipts) (s .now) (s .target - 1) ⌝ }
+    ensures { λ x. ⌜ ((K : Ledger) → let L = any K of-edition edition with-header header with-wallets wallets with-escrows escrows with-receipts receipts in done x (L .exit) ≡ reply s (L .entry)) ⌝ }
+{
+    if s.flags / ACCEPTS % 2 == 0 {
+        return dispute(receipts, s);
+    }
+    accept(edition, header, wallets, escrows, receipts, s)
 }
 
 // Freeze sets the wallet's frozen word, or the system's for target 0, to bit 2.

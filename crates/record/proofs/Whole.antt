@@ -8,7 +8,8 @@ use lib.ListN.{getD, set, length, length-set}
 use lib.Seq.{sets}
 use borrow.Author.Tests.{eq-eqb, ne-eqb}
 use Rattle.rules.specs.Limits.{RECORD-BYTES, MARK-0, MARK-1}
-use Rattle.rules.specs.Record.{decode, encode, wordsOf, wordBytes, nothing, wellFormed, acceptedBy, readBy, readOf, writeOf}
+use Rattle.rules.specs.Record.{decode, encode, wordsOf, wordBytes, nothing, wellFormedBy, wellFormed, acceptedBy, readBy, writeOf}
+use Rattle.rules.specs.declared.Form.{Form}
 use Rattle.rules.specs.declared.Submission.{Submission}
 use Rattle.rules.specs.declared.Read.{Read}
 use Rattle.rules.proofs.Rows.{sets-whole}
@@ -21,26 +22,26 @@ room b h {m} t = subst (λ (n : ℕ). m ≤ n) (sym h) (lit≤ t)
 abbrev refused : Read
 refused = record { number = 3; submission = nothing }
 
-pub read-short : (b : List ℕ) (r : Read) → r ≡ refused → (length b ≡ RECORD-BYTES → ⊥) → r ≡ readOf b
+pub read-short : (f : Form) (b : List ℕ) (r : Read) → r ≡ refused → (length b ≡ RECORD-BYTES → ⊥) → r ≡ readBy f b
 unfolding readBy acceptedBy
-read-short b r x n = rw (ne-eqb (length b) RECORD-BYTES n) x
+read-short f b r x n = rw (ne-eqb (length b) RECORD-BYTES n) x
 
 -- the code's tests of mark and form
 abbrev Marked : List ℕ → Bool → Bool
 Marked b w = eqb (getD b 0 0) MARK-0 && (eqb (getD b 1 0) MARK-1 && w)
 
-read-by : (b : List ℕ) (s : Submission) {w : Bool} → length b ≡ RECORD-BYTES → s ≡ decode b → w ≡ wellFormed s
-    → cond (Marked b w) (record { number = 0; submission = s }) refused ≡ readOf b
+read-by : (f : Form) (b : List ℕ) (s : Submission) {w : Bool} → length b ≡ RECORD-BYTES → s ≡ decode b → w ≡ wellFormedBy f s
+    → cond (Marked b w) (record { number = 0; submission = s }) refused ≡ readBy f b
 unfolding readBy acceptedBy
-read-by b s l x y = rw (eq-eqb (length b) RECORD-BYTES l, y, x)
+read-by f b s l x y = rw (eq-eqb (length b) RECORD-BYTES l, y, x)
 
-pub read-there : (b : List ℕ) (s : Submission) {w : Bool} → length b ≡ RECORD-BYTES → s ≡ decode b → w ≡ wellFormed s → Marked b w ≡ true
-    → record { number = 0; submission = s } ≡ readOf b
-read-there b s l x y t = rw t at (read-by b s l x y)
+pub read-there : (f : Form) (b : List ℕ) (s : Submission) {w : Bool} → length b ≡ RECORD-BYTES → s ≡ decode b → w ≡ wellFormedBy f s → Marked b w ≡ true
+    → record { number = 0; submission = s } ≡ readBy f b
+read-there f b s l x y t = rw t at (read-by f b s l x y)
 
-pub read-malformed : (b : List ℕ) (s : Submission) {w : Bool} (r : Read) → r ≡ refused → length b ≡ RECORD-BYTES → s ≡ decode b → w ≡ wellFormed s → Marked b w ≡ false
-    → r ≡ readOf b
-read-malformed b s r z l x y t = z ∙ rw t at (read-by b s l x y)
+pub read-malformed : (f : Form) (b : List ℕ) (s : Submission) {w : Bool} (r : Read) → r ≡ refused → length b ≡ RECORD-BYTES → s ≡ decode b → w ≡ wellFormedBy f s → Marked b w ≡ false
+    → r ≡ readBy f b
+read-malformed f b s r z l x y t = z ∙ rw t at (read-by f b s l x y)
 
 -- ---- the writer
 -- the first four bytes stored, and then the words

@@ -1,9 +1,10 @@
-// The submission record of 108 bytes: read into its fields, and written from them.
+// The submission record of 108 bytes: read into its fields, by either form, and written from them.
 ghost use mathlib.Core.Path.{_≡_};
 ghost use lib.ListN.{length};
 ghost use Rattle.rules.specs.Limits.{RECORD-BYTES};
-ghost use Rattle.rules.specs.Record.{decode, encode, nothing, readOf, Written, writeOf};
+ghost use Rattle.rules.specs.Record.{decode, encode, nothing, readBy, readOf, Written, writeOf};
 ghost use Rattle.rules.specs.declared.Read.{Read};
+use rules::Form;
 use rules::Read;
 use rules::Submission;
 use rules::limits::MALFORMED_RECORD;
@@ -64,15 +65,15 @@ fn fields(b: &[u8]) -> Submission
     }
 }
 
-// Reads a record: 0 and its fields, or 3 and every field 0.
-pub fn read_record(bytes: &[u8]) -> Read
-    ensures { λ r. ⌜ r ≡ readOf (now (bytes .entry)) ⌝ }
+// Reads a record by a form: 0 and its fields, or 3 and every field 0.
+pub fn read_by(form: Form, bytes: &[u8]) -> Read
+    ensures { λ r. ⌜ r ≡ readBy form (now (bytes .entry)) ⌝ }
 {
     if bytes.len() != RECORD_BYTES {
         return malformed();
     }
     let s = fields(bytes);
-    let formed = form::well_formed(s);
+    let formed = form::well_formed(form, s);
     if (bytes[0] == MARK_0) & ((bytes[1] == MARK_1) & formed) {
         Read {
             number: 0,
@@ -81,6 +82,13 @@ pub fn read_record(bytes: &[u8]) -> Read
     } else {
         malformed()
     }
+}
+
+// Reads a record of today's form.
+pub fn read_record(bytes: &[u8]) -> Read
+    ensures { λ r. ⌜ r ≡ readOf (now (bytes .entry)) ⌝ }
+{
+    read_by(Form::Today, bytes)
 }
 
 // Stores the bytes of a submission.
@@ -117,7 +125,7 @@ pub fn write_record(s: Submission, out: &mut [u8]) -> u64
     if out.len() != RECORD_BYTES {
         return MALFORMED_RECORD;
     }
-    if form::well_formed(s) {
+    if form::well_formed(Form::Today, s) {
         put_fields(s, out);
         0
     } else {

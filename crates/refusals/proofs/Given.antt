@@ -1,5 +1,6 @@
 -- What the checks use of a sound ledger and a well-formed record, in plain numbers.
 use mathlib.Core.Path.{_≡_}
+use mathlib.Core.Logic.{_≢_}
 use mathlib.Core.List.{List}
 use mathlib.Core.Bool.{true, not, _||_, or-false}
 use Prim.Native.Nat.{ℕ, _*_, _≤_, _<_}
@@ -7,7 +8,7 @@ use lib.ListN.{getD, length}
 use lib.Dec.{eqb, leb}
 use borrow.Author.Tests.{leb-true}
 use Rattle.rules.specs.Limits.{WALLET-LEN, JOURNAL-LEN, MAX-WALLETS, MAX-ESCROWS, MAX-RECEIPTS, MAX-AMOUNT-MICRO, LAST-TIME-MS}
-use Rattle.rules.specs.Limits.{WALLETS, ESCROWS, RECEIPTS, ENTRIES, OPERATION, TRANSFER, OPEN, LAST-OPERATION}
+use Rattle.rules.specs.Limits.{WALLETS, ESCROWS, RECEIPTS, ENTRIES, OPERATION, TRANSFER, OPEN, OLD-DISPUTE, LAST-OPERATION}
 use Rattle.rules.specs.Ledger.{Ledger, ledgerOf, entry}
 use Rattle.rules.specs.Sound.{between}
 use Rattle.rules.specs.Refusals.{oneOf, paying}
@@ -73,6 +74,9 @@ module _ {ed : Edition} {h w e r j : List ℕ} {s : Submission} (given : Checkab
 
   pub op-high : s .op ≤ LAST-OPERATION
   op-high = form .high
+
+  pub op-not-8 : s .op ≢ OLD-DISPUTE
+  op-not-8 = form .not-8
 
   pub now-time : s .now ≤ LAST-TIME-MS
   now-time = form .now-right

@@ -5,7 +5,6 @@ use mathlib.Core.Bool.{true}
 use Prim.Native.Nat.{ℕ, _+_, _≤_, _<_}
 use native.Mathlib.Decide.{ℕ-discrete}
 use native.Mathlib.Omega.{arith}
-use Rattle.rules.specs.Limits.{SWEEP, FREEZE, CAPS, CLOSE}
 use Rattle.rules.specs.Ledger.{Ledger}
 use Rattle.rules.specs.Refusals.{first, envelopeRefusals, operationRefusals}
 use Rattle.rules.specs.declared.Submission.{Submission}
@@ -23,13 +22,6 @@ either n op lo hi = go (ℕ-discrete op n)
 -- the next one on, where it is not this one
 pub above : (n op : ℕ) → n ≤ op → (op ≡ n → ⊥) → n + 1 ≤ op
 above n op lo ne = omega (arith, ne)
-
--- there is no operation after the close
-pub no-more : (op : ℕ) → SWEEP ≤ op → op ≤ CLOSE → (op ≡ SWEEP → ⊥) → (op ≡ FREEZE → ⊥) → (op ≡ CAPS → ⊥) → (op ≡ CLOSE → ⊥) → ⊥
-no-more op lo hi a b c d = last (omega (arith, a, b))
-  where
-    last : CAPS ≤ op → ⊥
-    last l = omega (arith, l, hi, c, d)
 
 module _ (L : Ledger) (s : Submission) where
   envelope-numbered : numbered (envelopeRefusals L s) ≡ true

@@ -6,16 +6,15 @@ ghost use Rattle.rules.specs.Refusals.{first, operationRefusals};
 ghost use Rattle.refusals.specs.Checkable.{Checkable, laterRefusals};
 use rules::Edition;
 use rules::Submission;
-use rules::limits::ACCEPT;
 use rules::limits::CAPS;
 use rules::limits::CLAIM;
 use rules::limits::CLOSE;
-use rules::limits::DISPUTE;
 use rules::limits::FREEZE;
 use rules::limits::GRANT;
 use rules::limits::OPEN;
 use rules::limits::REFUND;
 use rules::limits::RELEASE;
+use rules::limits::REPLY;
 use rules::limits::SWEEP;
 use rules::limits::TRANSFER;
 
@@ -40,11 +39,12 @@ fn operation_refusal(
         TRANSFER | OPEN => payments::paying_refusal(edition, header, wallets, escrows, journal, s),
         RELEASE | REFUND => holds::closing_refusal(edition, header, escrows, journal, s),
         CLAIM => holds::claim_refusal(edition, header, wallets, escrows, receipts, journal, s),
-        ACCEPT | DISPUTE => holds::reply_refusal(header, receipts, journal, s),
+        REPLY => holds::reply_refusal(header, receipts, journal, s),
         SWEEP => admin::sweep_refusal(s),
         FREEZE => admin::freeze_refusal(header, wallets, journal, s),
         CAPS => admin::caps_refusal(header, wallets, journal, s),
         CLOSE => admin::close_refusal(edition, header, wallets, escrows, journal, s),
+        // no well-formed record has another operation
         _ => 0,
     }
 }

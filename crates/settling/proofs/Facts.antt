@@ -9,10 +9,10 @@ use native.Mathlib.Omega.{arith}
 use lib.ListN.{getD}
 use borrow.Author.Tests.{le-ltb, lt-ltb}
 use Rattle.rules.specs.Limits.{MAX-ENTRIES, ENTRIES}
-use Rattle.rules.specs.Limits.{GRANT, TRANSFER, OPEN, ACCEPT, DISPUTE, FREEZE, CAPS, CLOSE}
+use Rattle.rules.specs.Limits.{GRANT, TRANSFER, OPEN, REPLY, FREEZE, CAPS, CLOSE}
 use Rattle.rules.specs.Ledger.{Ledger, ledgerOf, walletCount, walletRow, hasWallet, written}
 use Rattle.rules.specs.Wallets.{closedAt, isClosed}
-use Rattle.rules.specs.Refusals.{entryRefusals, oneOf, paying, closing, signs, targets}
+use Rattle.rules.specs.Refusals.{entryRefusals, oneOf, paying, closing, signs, targets, replying}
 use Rattle.rules.specs.Submit.{answerOf}
 use Rattle.rules.specs.declared.Edition.{Edition}
 use Rattle.rules.specs.declared.Submission.{Submission}
@@ -109,17 +109,13 @@ module _ (ed : Edition) (h w e r j : List ℕ) (s : Submission) (p : Settles (le
   pub claiming : Claiming h
   claiming = record { whole = small .whole; receipts = small .receipts }
 
-  -- 7 and 8
-  receipt-named : oneOf (ACCEPT ∷ DISPUTE ∷ []) (s .op) ≡ true → Names (s .target)
-  receipt-named t = written-named _ _ (receipt-written L read answered t) (omega (arith, small .receipts))
-
-  pub accepting : s .op ≡ ACCEPT → Names (s .target) × Accepts ed h w e r (s .now) (s .target - 1)
-  accepting o =
-      let t = ap (oneOf (ACCEPT ∷ DISPUTE ∷ [])) o in
-      (receipt-named t, accepts-of ed (p .sized .small) h w e r small good (s .now) (s .target - 1) (receipt-row L read answered t))
-
-  pub disputing : s .op ≡ DISPUTE → Names (s .target)
-  disputing o = receipt-named (ap (oneOf (ACCEPT ∷ DISPUTE ∷ [])) o)
+  -- 7
+  pub answering : s .op ≡ REPLY → Names (s .target) × Accepts ed h w e r (s .now) (s .target - 1)
+  answering o =
+      let t = ap (oneOf replying) o in (
+        written-named _ _ (receipt-written L read answered t) (omega (arith, small .receipts)),
+        accepts-of ed (p .sized .small) h w e r small good (s .now) (s .target - 1) (receipt-row L read answered t),
+      )
 
   -- 9
   pub swept : Sweeping ed h w e r (s .now)

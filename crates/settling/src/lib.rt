@@ -1,12 +1,10 @@
 // Settling a submission that no refusal holds back: its operation, then the clock, then the journal.
 use rules::Edition;
 use rules::Submission;
-use rules::limits::ACCEPT;
 use rules::limits::CAPS;
 use rules::limits::CLAIM;
 use rules::limits::CLOCK;
 use rules::limits::CLOSE;
-use rules::limits::DISPUTE;
 use rules::limits::ENTRIES;
 use rules::limits::FREEZE;
 use rules::limits::GRANT;
@@ -16,6 +14,7 @@ use rules::limits::REFUND;
 use rules::limits::REFUNDED;
 use rules::limits::RELEASE;
 use rules::limits::RELEASED;
+use rules::limits::REPLY;
 use rules::limits::SWEEP;
 use rules::limits::TRANSFER;
 ghost use mathlib.Core.Path.{_≡_};
@@ -47,8 +46,7 @@ fn operate(
         RELEASE => operations::close_escrow(edition, header, wallets, escrows, s, RELEASED),
         REFUND => operations::close_escrow(edition, header, wallets, escrows, s, REFUNDED),
         CLAIM => operations::claim(header, receipts, s),
-        ACCEPT => operations::accept(edition, header, wallets, escrows, receipts, s),
-        DISPUTE => operations::dispute(receipts, s),
+        REPLY => operations::reply(edition, header, wallets, escrows, receipts, s),
         SWEEP => sweeping::sweep(edition, header, wallets, escrows, receipts, s.now, s.amount),
         FREEZE => operations::freeze(header, wallets, s),
         CAPS => operations::caps(header, wallets, s),

@@ -5,8 +5,8 @@ use Rattle.rules.specs.Ledger.{ledgerOf, setReceipts}
 use Rattle.rules.specs.Settle.{release, refund, sweep}
 use Rattle.rules.proofs.Calls.{by-op}
 use Rattle.rules.specs.Refusals.{oneOf, closing}
-use Rattle.rules.specs.Limits.{GRANT, TRANSFER, OPEN, RELEASE, REFUND, CLAIM, ACCEPT, DISPUTE, SWEEP, FREEZE, CAPS, CLOSE}
-use Rattle.settling.proofs.Facts.{formed, granting, transferring, opening, ending, claiming, accepting, disputing, swept, freezing, capping, shutting}
+use Rattle.rules.specs.Limits.{GRANT, TRANSFER, OPEN, RELEASE, REFUND, CLAIM, REPLY, SWEEP, FREEZE, CAPS, CLOSE}
+use Rattle.settling.proofs.Facts.{formed, granting, transferring, opening, ending, claiming, answering, swept, freezing, capping, shutting}
 use Rattle.settling.proofs.Settled.{operated}
 use borrow.Author.Needs.{needs}
 use Rattle.settling.proofs.operate.Statement.{statement}
@@ -40,15 +40,10 @@ close-escrow-requires-2 c κs =
 claim-requires : tie.Need-claim-requires
 claim-requires c κs = claiming _ _ _ _ _ _ _ (c .before .before .before .before .before .before .before .pre .settles)
 
-accept-requires : tie.Need-accept-requires
-accept-requires c κs =
+reply-requires : tie.Need-reply-requires
+reply-requires c κs =
     let arm = c .before .before .before .before in
-    accepting _ _ _ _ _ _ _ (arm .before .before .before .before .before .pre .settles) (arm .match .keys7)
-
-dispute-requires : tie.Need-dispute-requires
-dispute-requires c κs =
-    let arm = c .before in
-    disputing _ _ _ _ _ _ _ (arm .before .before .before .before .before .pre .settles) (arm .match .keys8)
+    answering _ _ _ _ _ _ _ (arm .before .before .before .before .before .pre .settles) (arm .match .keys7)
 
 sweep-requires : tie.Need-sweep-requires
 sweep-requires c κs = swept _ _ _ _ _ _ _ (c .before .before .before .before .before .before .before .before .before .pre .settles)
@@ -56,17 +51,17 @@ sweep-requires c κs = swept _ _ _ _ _ _ _ (c .before .before .before .before .b
 freeze-requires : tie.Need-freeze-requires
 freeze-requires c κs =
     let arm = c .before .before in
-    freezing _ _ _ _ _ _ _ (arm .before .before .before .before .before .pre .settles) (arm .match .keys10)
+    freezing _ _ _ _ _ _ _ (arm .before .before .before .before .before .pre .settles) (arm .match .keys9)
 
 caps-requires : tie.Need-caps-requires
 caps-requires c κs =
     let arm = c .before .before in
-    capping _ _ _ _ _ _ _ (arm .before .before .before .before .before .pre .settles) (arm .match .keys11)
+    capping _ _ _ _ _ _ _ (arm .before .before .before .before .before .pre .settles) (arm .match .keys10)
 
 close-requires : tie.Need-close-requires
 close-requires c κs =
     let arm = c .before .before in
-    shutting _ _ _ _ _ _ _ (arm .before .before .before .before .before .pre .settles) (arm .match .keys12)
+    shutting _ _ _ _ _ _ _ (arm .before .before .before .before .before .pre .settles) (arm .match .keys11)
 
 same-length : tie.Need-same-length
 same-length c = search needs
@@ -146,13 +141,10 @@ same-length-19 : tie.Need-same-length-19
 same-length-19 c = search needs
 
 returns-7 : tie.Need-returns-7
-returns-7 c = λ K. operated ACCEPT _ _ _ (c .before .before .before .before .before .before .before .before .before .before .before .match .keys7) (c .before .before .before .before .before .before .accept .ensures K)
+returns-7 c = λ K. operated REPLY _ _ _ (c .before .before .before .before .before .before .before .before .before .before .before .match .keys7) (c .before .before .before .before .before .before .reply .ensures K)
 
 same-length-20 : tie.Need-same-length-20
 same-length-20 c = search needs
-
-returns-8 : tie.Need-returns-8
-returns-8 c = λ K. operated DISPUTE _ _ _ (c .before .before .before .before .match .keys8) (c .before .before .dispute .ensures (ledgerOf _ _ _ _ [] _))
 
 same-length-21 : tie.Need-same-length-21
 same-length-21 c = search needs
@@ -163,46 +155,43 @@ same-length-22 c = search needs
 same-length-23 : tie.Need-same-length-23
 same-length-23 c = search needs
 
+returns-8 : tie.Need-returns-8
+unfolding sweep
+returns-8 c = λ K. operated SWEEP _ _ _ (c .before .before .before .before .before .before .before .before .before .before .before .match .keys8) (c .before .before .before .before .before .before .sweep .ensures K .0)
+
 same-length-24 : tie.Need-same-length-24
 same-length-24 c = search needs
-
-returns-9 : tie.Need-returns-9
-unfolding sweep
-returns-9 c = λ K. operated SWEEP _ _ _ (c .before .before .before .before .before .before .before .before .before .before .before .match .keys9) (c .before .before .before .before .before .before .sweep .ensures K .0)
 
 same-length-25 : tie.Need-same-length-25
 same-length-25 c = search needs
 
+returns-9 : tie.Need-returns-9
+returns-9 c = λ K. operated FREEZE _ _ _ (c .before .before .before .before .before .before .before .match .keys9) (c .before .before .before .before .freeze .ensures (ledgerOf _ [] [] _ _ _))
+
 same-length-26 : tie.Need-same-length-26
 same-length-26 c = search needs
-
-returns-10 : tie.Need-returns-10
-returns-10 c = λ K. operated FREEZE _ _ _ (c .before .before .before .before .before .before .before .match .keys10) (c .before .before .before .before .freeze .ensures (ledgerOf _ [] [] _ _ _))
 
 same-length-27 : tie.Need-same-length-27
 same-length-27 c = search needs
 
+returns-10 : tie.Need-returns-10
+returns-10 c = λ K. operated CAPS _ _ _ (c .before .before .before .before .before .match .keys10) (c .before .before .caps .ensures (ledgerOf _ [] [] _ _ _))
+
 same-length-28 : tie.Need-same-length-28
 same-length-28 c = search needs
-
-returns-11 : tie.Need-returns-11
-returns-11 c = λ K. operated CAPS _ _ _ (c .before .before .before .before .before .match .keys11) (c .before .before .caps .ensures (ledgerOf _ [] [] _ _ _))
 
 same-length-29 : tie.Need-same-length-29
 same-length-29 c = search needs
 
-same-length-30 : tie.Need-same-length-30
-same-length-30 c = search needs
+returns-11 : tie.Need-returns-11
+returns-11 c = λ K. operated CLOSE _ _ _ (c .before .before .before .before .before .match .keys11) (c .before .before .close .ensures (ledgerOf _ [] [] _ _ _))
 
 returns-12 : tie.Need-returns-12
-returns-12 c = λ K. operated CLOSE _ _ _ (c .before .before .before .before .before .match .keys12) (c .before .before .close .ensures (ledgerOf _ [] [] _ _ _))
-
-returns-13 : tie.Need-returns-13
-returns-13 c =
+returns-12 c =
     let f = formed _ _ _ _ _ _ _ (c .before .before .before .before .before .pre .settles) in
-    let few = c .match .rest .0 .0 .0 .0 .0 .0 in
+    let few = c .match .rest .0 .0 .0 .0 .0 in
     let some = c .match .rest in
-    absurd (by-op (λ _. ⊥) _ (f .low) (f .high) (few .0 .0 .0 .0 .0 .1) (few .0 .0 .0 .0 .1) (few .0 .0 .0 .1) (few .0 .0 .1) (few .0 .1) (few .1) (some .0 .0 .0 .0 .0 .1) (some .0 .0 .0 .0 .1) (some .0 .0 .0 .1) (some .0 .0 .1) (some .0 .1) (some .1))
+    absurd (by-op (λ _. ⊥) _ (f .low) (f .high) (f .not-8) (few .0 .0 .0 .0 .0 .1) (few .0 .0 .0 .0 .1) (few .0 .0 .0 .1) (few .0 .0 .1) (few .0 .1) (few .1) (some .0 .0 .0 .0 .1) (some .0 .0 .0 .1) (some .0 .0 .1) (some .0 .1) (some .1))
 
 pub operate-spec : {M : Type 1} → statement M
 operate-spec =
@@ -214,8 +203,7 @@ operate-spec =
     close-escrow-requires
     close-escrow-requires-2
     claim-requires
-    accept-requires
-    dispute-requires
+    reply-requires
     sweep-requires
     freeze-requires
     caps-requires
@@ -247,19 +235,17 @@ operate-spec =
     same-length-19
     returns-7
     same-length-20
-    returns-8
     same-length-21
     same-length-22
     same-length-23
+    returns-8
     same-length-24
-    returns-9
     same-length-25
+    returns-9
     same-length-26
-    returns-10
     same-length-27
+    returns-10
     same-length-28
-    returns-11
     same-length-29
-    same-length-30
-    returns-12
-    returns-13)
+    returns-11
+    returns-12)
