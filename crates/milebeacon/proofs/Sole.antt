@@ -24,6 +24,8 @@ use Rattle.milebeacon.proofs.milebeacon_write.Kinds as write-kinds
 use Rattle.milebeacon.proofs.milebeacon_write.Reads as write-reads
 use Rattle.milebeacon.proofs.milebeacon_status.Kinds as status-kinds
 use Rattle.milebeacon.proofs.milebeacon_status.Reads as status-reads
+use Rattle.milebeacon.proofs.milebeacon_convert.Kinds as convert-kinds
+use Rattle.milebeacon.proofs.milebeacon_convert.Reads as convert-reads
 use Rattle.milebeacon.proofs.milebeacon_wallet_row.Kinds as wallet-kinds
 use Rattle.milebeacon.proofs.milebeacon_wallet_row.Reads as wallet-reads
 use Rattle.milebeacon.proofs.milebeacon_escrow_place.Kinds as escrow-place-kinds
@@ -49,6 +51,10 @@ sole-write κs a x y v w p q = one p q
 
 pub sole-status : Sole status-kinds.ps status-kinds.r status-reads.Learnt ℕ (λ κs x e. x)
 sole-status κs a x y v w p q = one p q
+
+-- the bytes left
+pub sole-convert : Sole convert-kinds.ps convert-kinds.r convert-reads.Learnt (List ℕ) (λ κs x e. now (e .0))
+sole-convert κs a x y v w p q = one p q
 
 -- what was found of a wallet, in numbers, or a place, and the two slices lent
 pub sole-wallet-row : Sole wallet-kinds.ps wallet-kinds.r wallet-reads.Learnt (Standing × Pair) (λ κs x e. (x, pair (now (e .0)) (now (e .1 .0))))

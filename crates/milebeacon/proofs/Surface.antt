@@ -5,7 +5,7 @@ use lib.Dec.{lit<, lit≤}
 use denote.Ref.{now}
 use Rattle.rules.specs.Ledger.{first-edition}
 use Rattle.rules.specs.Report.{reportOf}
-use Rattle.rules.specs.Results.{Ran, exits, Result, by-fresh, by-submit, by-replay, by-report, by-lookup, wallet-standing, escrow-place, receipt-place, by-read, by-write, by-status, Meets}
+use Rattle.rules.specs.Results.{Ran, exits, Result, by-fresh, by-submit, by-replay, by-report, by-lookup, wallet-standing, escrow-place, receipt-place, by-read, by-write, by-status, by-convert, Meets}
 use Rattle.rules.specs.Runs.{Surface, Calls-are-listed, Calls-decide, Runs-add-up, Runs-refuse-retries, Retries-change-nothing, Runs-recordings-agree}
 use Rattle.rules.proofs.Runs.{calls-are-listed, calls-decide, runs-add-up, runs-refuse-retries, retries-change-nothing}
 use Rattle.rules.proofs.Recorded.{runs-recordings-agree}
@@ -24,6 +24,8 @@ use Rattle.milebeacon.proofs.milebeacon_write.Kinds as write-kinds
 use Rattle.milebeacon.proofs.milebeacon_write.Reads as write-reads
 use Rattle.milebeacon.proofs.milebeacon_status.Kinds as status-kinds
 use Rattle.milebeacon.proofs.milebeacon_status.Reads as status-reads
+use Rattle.milebeacon.proofs.milebeacon_convert.Kinds as convert-kinds
+use Rattle.milebeacon.proofs.milebeacon_convert.Reads as convert-reads
 use Rattle.milebeacon.proofs.milebeacon_wallet_row.Kinds as wallet-kinds
 use Rattle.milebeacon.proofs.milebeacon_wallet_row.Reads as wallet-reads
 use Rattle.milebeacon.proofs.milebeacon_escrow_place.Kinds as escrow-place-kinds
@@ -40,6 +42,7 @@ pub data Did : Type 0 where
   did-read : Ran read-kinds.ps read-kinds.r read-reads.Learnt → Did
   did-write : Ran write-kinds.ps write-kinds.r write-reads.Learnt → Did
   did-status : Ran status-kinds.ps status-kinds.r status-reads.Learnt → Did
+  did-convert : Ran convert-kinds.ps convert-kinds.r convert-reads.Learnt → Did
   did-wallet : Ran wallet-kinds.ps wallet-kinds.r wallet-reads.Learnt → Did
   did-escrow-place : Ran escrow-place-kinds.ps escrow-place-kinds.r escrow-place-reads.Learnt → Did
   did-receipt-place : Ran receipt-place-kinds.ps receipt-place-kinds.r receipt-place-reads.Learnt → Did
@@ -59,6 +62,7 @@ shows (did-report x) =
 shows (did-read x) = by-read (now (x .args .0)) (x .answer)
 shows (did-write x) = by-write (x .args .0) (now (x .args .1 .0)) (now (exits x .1 .0)) (x .answer)
 shows (did-status x) = by-status (x .args .0) (x .answer)
+shows (did-convert x) = by-convert (now (x .args .0)) (now (exits x .0))
 shows (did-wallet x) = by-lookup (two (x .args)) (two (exits x)) (wallet-standing (x .args .1 .1 .0) (x .answer))
 shows (did-escrow-place x) = by-lookup (two (x .args)) (two (exits x)) (escrow-place (x .args .1 .1 .0 .0) (x .answer))
 shows (did-receipt-place x) = by-lookup (two (x .args)) (two (exits x)) (receipt-place (x .args .1 .1 .0 .0) (x .answer))
@@ -72,6 +76,7 @@ meets (did-report x) = (refl, x .meets)
 meets (did-read x) = x .meets
 meets (did-write x) = x .meets
 meets (did-status x) = x .meets
+meets (did-convert x) = x .meets
 meets (did-wallet x) = (refl, x .meets)
 meets (did-escrow-place x) = (refl, x .meets)
 meets (did-receipt-place x) = (refl, x .meets)

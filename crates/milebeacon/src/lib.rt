@@ -1,6 +1,7 @@
 // Entry points for a host in Rust or C. Each only passes on to the core's own call and repeats its contract, so nothing new is decided here.
 // A slice is a pointer, then a count of elements.
 ghost use mathlib.Core.Path.{_≡_};
+ghost use Rattle.rules.specs.Convert.{converted};
 ghost use Rattle.rules.specs.Ledger.{first-edition, outcome, fresh};
 ghost use Rattle.rules.specs.Lookup.{escrowPlace, receiptPlace, walletState};
 ghost use Rattle.rules.specs.Moments.{lent};
@@ -163,4 +164,12 @@ pub extern "C" fn milebeacon_report(
         number: told[TOLD_NUMBER],
         entries: told[TOLD_ENTRIES],
     }
+}
+
+// Turns a recording of the old form into today's, in place. It takes any bytes and refuses nothing, so it has no answer.
+#[no_mangle]
+pub extern "C" fn milebeacon_convert(recording: &mut [u8])
+    ensures { λ _. ⌜ now (recording .exit) ≡ converted (now (recording .entry)) ⌝ }
+{
+    convert::convert(recording)
 }

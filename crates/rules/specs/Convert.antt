@@ -15,27 +15,32 @@ unfoldable pub oldOperation : List ℕ → ℕ
 oldOperation b = readBy Old b .submission .op
 
 -- a dispute is a reply now, and so is an accept, which keeps its number. "A record malformed by the old form gets operation 0"
-unfoldable pub newOperation : List ℕ → ℕ
-newOperation b = cond (eqb (oldOperation b) OLD-DISPUTE) REPLY (oldOperation b)
+abbrev pub newOperation : ℕ → ℕ
+newOperation old = cond (eqb old OLD-DISPUTE) REPLY old
 
 -- an accept has used bit 0 alone, and gets bit 2; the flags of any other record stay, so a dispute has bit 2 clear and bit 3 as it was
-unfoldable pub newFlags : List ℕ → ℕ
-newFlags b =
-    let flags = getD b FLAGS-AT 0 in
-    cond (eqb (oldOperation b) OLD-ACCEPT) (bit SIGNATURE-HELD flags + 2 ^ ACCEPTS) flags
+abbrev pub newFlags : ℕ → ℕ → ℕ
+newFlags old flags = cond (eqb old OLD-ACCEPT) (bit SIGNATURE-HELD flags + 2 ^ ACCEPTS) flags
+
+-- the two bytes of a record that change
+abbrev pub operationByte : List ℕ → ℕ
+operationByte b = newOperation (oldOperation b)
+
+abbrev pub flagsByte : List ℕ → ℕ
+flagsByte b = newFlags (oldOperation b) (getD b FLAGS-AT 0)
 
 -- a record in today's form, and an entry: its answer stays
 unfoldable pub convertRecord : List ℕ → List ℕ
-convertRecord b = set (set b OPERATION-AT (newOperation b)) FLAGS-AT (newFlags b)
+convertRecord b = set (set b OPERATION-AT (operationByte b)) FLAGS-AT (flagsByte b)
 
 abbrev pub convertEntry : Entry → Entry
 convertEntry e = asEntry (convertRecord (e .bytes)) (e .number) (e .word)
 
--- in place: two bytes of the record that starts at a place are set
+-- in place: those of the record that starts at a place
 unfoldable pub convertedAt : ℕ → List ℕ → List ℕ
 convertedAt at r =
     let b = take RECORD-BYTES (drop at r) in
-    set (set r (at + OPERATION-AT) (newOperation b)) (at + FLAGS-AT) (newFlags b)
+    set (set r (at + OPERATION-AT) (operationByte b)) (at + FLAGS-AT) (flagsByte b)
 
 -- THE CONVERTER: every whole entry in turn. "A cut last entry stays."
 unfoldable pub converted : List ℕ → List ℕ
