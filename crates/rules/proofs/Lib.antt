@@ -65,6 +65,7 @@ pub mod Grid
 pub mod Past
 pub mod Tallies
 pub mod Month
+pub mod Reply
 pub mod Bounded
 pub mod Onward
 pub mod Ended

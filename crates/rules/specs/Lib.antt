@@ -25,6 +25,7 @@ pub mod Cap
 pub mod Window
 pub mod Closed
 pub mod Converted
+pub mod Reply
 pub mod Results
 pub mod Runs
 pub mod Trials
