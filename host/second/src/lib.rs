@@ -7,6 +7,8 @@
 
 #![forbid(unsafe_code)]
 
+mod convert;
+mod form;
 mod lookups;
 mod record;
 mod refusals;
@@ -20,9 +22,11 @@ mod status;
 mod tables;
 mod wallets;
 
+pub use convert::convert;
+pub use form::Form;
 pub use lookups::{escrow_row, receipt_row, wallet_row};
-pub use record::{read, write, Submission};
-pub use replay::{entry, replay, Found, ENTRY_BYTES};
+pub use record::{read, read_in, write, write_in, Submission};
+pub use replay::{entry, replay, replay_in, Found, ENTRY_BYTES};
 pub use report::{add_recording, Added, Figure, Grid, Report, GRID_COLUMNS, GRID_ROWS};
 pub use run::run;
 pub use status::status;
@@ -43,6 +47,11 @@ const MOST_GRANTED: u64 = 1_000_000_000_000_000_000;
 /// or byte changes." Since request 5/13 it is not the lowest number but the
 /// first: "Demand 2's order is now that of the table's rows".
 pub fn submit(tables: &mut Tables<'_>, record: &[u8]) -> (u64, u64) {
+    submit_in(Form::New, tables, record)
+}
+
+/// `submit` of a record in either form, "all other rules being today's".
+pub fn submit_in(form: Form, tables: &mut Tables<'_>, record: &[u8]) -> (u64, u64) {
     // 1, bad_table: "a table's slice has a wrong length".
     if !tables::lengths_right(tables) {
         return (1, 0);
@@ -53,7 +62,7 @@ pub fn submit(tables: &mut Tables<'_>, record: &[u8]) -> (u64, u64) {
         None => return (2, 0),
     };
     // 3, malformed_record.
-    let (operation, submission) = match record::parse(record) {
+    let (operation, submission) = match record::parse(form, record) {
         Some(well_formed) => well_formed,
         None => return (3, 0),
     };

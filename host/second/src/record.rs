@@ -1,5 +1,6 @@
 //! Section "The submission record".
 
+use crate::form::Form;
 use crate::LAST_TIME;
 
 /// "108 bytes: the two-byte mark A7 3C, operation, flags, nine little-endian
@@ -11,12 +12,18 @@ const MARK: [u8; 2] = [0xA7, 0x3C];
 /// The place of the operation: after the mark.
 pub const OPERATION_BYTE: usize = 2;
 
+/// The place of the flags: after the operation.
+pub const FLAGS_BYTE: usize = 3;
+
 /// Flag bit 0, "signature held".
 pub const SIGNATURE: u8 = 1;
 /// Flag bit 1, "signer is an admin".
 pub const ADMIN: u8 = 2;
 /// Flag bit 2, "auto-accept or freeze".
 pub const AUTO_OR_FREEZE: u8 = 4;
+/// Flag bit 2 of a reply to a claim, of request 7/13: "bit 2 for accept, clear
+/// for dispute".
+pub const ACCEPT: u8 = 4;
 /// Flag bit 3, "reason given".
 pub const REASON: u8 = 8;
 
@@ -45,7 +52,8 @@ impl Submission {
 }
 
 /// The first column of the table of operations, and operation 12 of request
-/// 6/13.
+/// 6/13. Accept and dispute stay two, though since request 7/13 one operation
+/// byte stands for both.
 #[derive(Clone, Copy, Debug, PartialEq, Eq)]
 pub enum Operation {
     Grant,
@@ -63,6 +71,7 @@ pub enum Operation {
 }
 
 impl Operation {
+    /// All but accept and dispute, whose numbers are a matter of the form.
     pub fn numbered(number: u8) -> Option<Operation> {
         Some(match number {
             1 => Operation::Grant,
@@ -71,8 +80,6 @@ impl Operation {
             4 => Operation::Release,
             5 => Operation::Refund,
             6 => Operation::Claim,
-            7 => Operation::Accept,
-            8 => Operation::Dispute,
             9 => Operation::Sweep,
             10 => Operation::Freeze,
             11 => Operation::Caps,
@@ -97,7 +104,7 @@ struct Uses {
     bits: u8,
 }
 
-fn uses(operation: Operation) -> Uses {
+fn uses(form: Form, operation: Operation) -> Uses {
     // "uses, besides now, signer, nonce, issued, expires, bit 0".
     let target = Uses {
         envelope: true,
@@ -131,7 +138,10 @@ fn uses(operation: Operation) -> Uses {
             bits: AUTO_OR_FREEZE,
             ..target
         },
-        Operation::Accept => target,
+        Operation::Accept => Uses {
+            bits: form.bits_of_accept(),
+            ..target
+        },
         Operation::Dispute => Uses {
             bits: REASON,
             ..target
@@ -174,9 +184,9 @@ fn unused_are_zero(uses: &Uses, s: &Submission) -> bool {
 /// malformed if ... the ... operation is wrong, an unused part is nonzero,
 /// signer is 0 (except 9), now, issued, expires or until exceeds 2^48 − 1, or
 /// expires < issued."
-fn well_formed(s: &Submission) -> Option<Operation> {
-    let operation = Operation::numbered(s.op)?;
-    let malformed = !unused_are_zero(&uses(operation), s)
+fn well_formed(form: Form, s: &Submission) -> Option<Operation> {
+    let operation = form.operation(s.op, s.flags)?;
+    let malformed = !unused_are_zero(&uses(form, operation), s)
         || (s.signer == 0 && operation != Operation::Sweep)
         || s.now > LAST_TIME
         || s.issued > LAST_TIME
@@ -191,7 +201,7 @@ fn well_formed(s: &Submission) -> Option<Operation> {
 }
 
 /// The operation and fields of a well-formed record; none for a malformed one.
-pub fn parse(record: &[u8]) -> Option<(Operation, Submission)> {
+pub fn parse(form: Form, record: &[u8]) -> Option<(Operation, Submission)> {
     if record.len() != RECORD_BYTES || record[..2] != MARK {
         return None;
     }
@@ -203,7 +213,7 @@ pub fn parse(record: &[u8]) -> Option<(Operation, Submission)> {
     }
     let submission = Submission {
         op: record[OPERATION_BYTE],
-        flags: record[3],
+        flags: record[FLAGS_BYTE],
         now: words[0],
         signer: words[1],
         nonce: words[2],
@@ -215,12 +225,17 @@ pub fn parse(record: &[u8]) -> Option<(Operation, Submission)> {
         link: words[8],
         hash: [words[9], words[10], words[11], words[12]],
     };
-    well_formed(&submission).map(|operation| (operation, submission))
+    well_formed(form, &submission).map(|operation| (operation, submission))
 }
 
 /// "A malformed record is read as answer 3 with every field 0."
 pub fn read(record: &[u8]) -> (u64, Submission) {
-    match parse(record) {
+    read_in(Form::New, record)
+}
+
+/// `read` in either form.
+pub fn read_in(form: Form, record: &[u8]) -> (u64, Submission) {
+    match parse(form, record) {
         Some((_, submission)) => (0, submission),
         None => (3, Submission::default()),
     }
@@ -229,13 +244,18 @@ pub fn read(record: &[u8]) -> (u64, Submission) {
 /// "The writer answers 3 for fields that would be malformed or an output not
 /// 108 bytes long, and the output stays."
 pub fn write(submission: &Submission, out: &mut [u8]) -> u64 {
-    if out.len() != RECORD_BYTES || well_formed(submission).is_none() {
+    write_in(Form::New, submission, out)
+}
+
+/// `write` in either form.
+pub fn write_in(form: Form, submission: &Submission, out: &mut [u8]) -> u64 {
+    if out.len() != RECORD_BYTES || well_formed(form, submission).is_none() {
         return 3;
     }
     let s = submission;
     out[..2].copy_from_slice(&MARK);
     out[OPERATION_BYTE] = s.op;
-    out[3] = s.flags;
+    out[FLAGS_BYTE] = s.flags;
     let [first, second, third, fourth] = s.hash;
     let words = [
         s.now, s.signer, s.nonce, s.issued, s.expires, s.target, s.amount, s.until, s.link, first,

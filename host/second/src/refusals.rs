@@ -23,7 +23,7 @@ struct Case<'a> {
     target: FoundWallet<&'a Wallet>,
     /// The escrow of 4 and 5 (target) or of a linked 6 (link).
     escrow: Option<&'a Escrow>,
-    /// The receipt of 7 and 8 (target).
+    /// The receipt of an accept or a dispute (target).
     receipt: Option<&'a Receipt>,
 }
 
@@ -126,21 +126,22 @@ const CONDITIONS: [(u64, Condition); 40] = [
     (31, |c| {
         c.is(&[Claim]) && c.of_escrow(|escrow| c.s.until > escrow.deadline)
     }),
-    // receipt_not_found (7, 8)
+    // receipt_not_found (accept, dispute). Of request 7/13: "Checks 32, 33, 34, 41 and 35 keep their
+    // order, 35 only for a dispute."
     (32, |c| c.is(&[Accept, Dispute]) && c.receipt.is_none()),
-    // receipt_signer_not_authorized: signer is not the requester (7, 8)
+    // receipt_signer_not_authorized: signer is not the requester (accept, dispute)
     (33, |c| {
         c.of_receipt(|receipt| c.s.signer != receipt.requester)
     }),
-    // receipt_not_pending (7, 8)
+    // receipt_not_pending (accept, dispute)
     (34, |c| {
         c.of_receipt(|receipt| receipt.state != ReceiptState::Pending)
     }),
     // acceptance_closed, of request 5/13: "Accept and dispute are now refused when the receipt's
     // acceptance deadline < now. The new answer 41 ... stands between 34 and 35, so a closed
-    // receipt still answers 34." (7, 8)
+    // receipt still answers 34."
     (41, |c| c.of_receipt(|receipt| receipt.deadline < c.s.now)),
-    // dispute_reason_required: bit 3 clear (8)
+    // dispute_reason_required: bit 3 clear (dispute)
     (35, |c| c.is(&[Dispute]) && !c.s.has(REASON)),
     // grant_limit: granted total + amount > 10^18 (1)
     (36, |c| {
@@ -173,7 +174,7 @@ impl Case<'_> {
         self.escrow.map_or(false, condition)
     }
 
-    /// A condition about the named receipt (7, 8).
+    /// A condition about the named receipt (accept, dispute).
     fn of_receipt(&self, condition: impl Fn(&Receipt) -> bool) -> bool {
         self.receipt.map_or(false, condition)
     }

@@ -1,5 +1,6 @@
 //! Request 1/13 of the change requests, "Replay of a ship's recording".
 
+use crate::form::Form;
 use crate::record::RECORD_BYTES;
 use crate::tables::{fresh, Tables};
 
@@ -48,6 +49,11 @@ fn recorded_answer(bytes: &[u8]) -> (u64, u64) {
 /// reported as such and is not replayed. ... tables replayed on are left as
 /// after the last entry replayed."
 pub fn replay(tables: &mut Tables<'_>, recording: &[u8]) -> Found {
+    replay_in(Form::New, tables, recording)
+}
+
+/// `replay` of a recording in either form.
+pub fn replay_in(form: Form, tables: &mut Tables<'_>, recording: &[u8]) -> Found {
     if fresh(tables) != 0 {
         return Found::WrongLength;
     }
@@ -57,7 +63,7 @@ pub fn replay(tables: &mut Tables<'_>, recording: &[u8]) -> Found {
     for bytes in entries {
         let (record, answer) = bytes.split_at(RECORD_BYTES);
         let recorded = recorded_answer(answer);
-        let answered = crate::submit(tables, record);
+        let answered = crate::submit_in(form, tables, record);
         replayed += 1;
         if answered != recorded {
             return Found::Disagrees {

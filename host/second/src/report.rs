@@ -1,13 +1,15 @@
 //! Request 3/13 of the change requests, "Month's report in exact numbers".
 
-use crate::record::{parse, Operation, OPERATION_BYTE, RECORD_BYTES};
+use crate::form::Form;
+use crate::record::{parse, Operation, FLAGS_BYTE, OPERATION_BYTE, RECORD_BYTES};
 use crate::replay::ENTRY_BYTES;
 use crate::rows::EscrowState;
 use crate::status::ANSWERS;
 use crate::tables::{decode, fresh, lengths_right, Tables};
 
 /// "one row for every operation and a row 0": operations 1 to 11, and 12 since
-/// request 6/13. "Later operations and answers widen the grid."
+/// request 6/13. "Later operations and answers widen the grid", and nothing
+/// makes it narrower: row 8 stays, though since request 7/13 no entry raises it.
 pub const GRID_ROWS: usize = 13;
 
 /// "one column per answer": answers 0 to 40, 41 since request 5/13, 42 and 43
@@ -118,10 +120,11 @@ impl Copied {
 }
 
 /// "one row for every operation and a row 0 for records whose operation byte
-/// is none of them": the byte as it stands, also in a malformed record.
+/// is none of them": the byte as it stands, also in a malformed record. Of
+/// request 7/13: "Operation 8 is ... counted in the grid's row 0."
 fn grid_row(record: &[u8]) -> usize {
     let byte = record[OPERATION_BYTE];
-    match Operation::numbered(byte) {
+    match Form::New.operation(byte, record[FLAGS_BYTE]) {
         Some(_) => usize::from(byte),
         None => 0,
     }
@@ -149,7 +152,7 @@ fn over_one(before: &Tables<'_>, after: &Tables<'_>, record: &[u8], answer: u64)
     one.grid[grid_row(record)][answer as usize] = 1;
     if answer == 0 {
         // "Grant raises balance and granted total. Transfer moves balance."
-        match parse(record) {
+        match parse(Form::New, record) {
             Some((Operation::Grant, grant)) => one.granted = grant.amount,
             Some((Operation::Transfer, transfer)) => one.transferred = transfer.amount,
             _ => {}

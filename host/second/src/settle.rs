@@ -41,7 +41,8 @@ pub fn settle(ledger: &mut Ledger, operation: Operation, s: &Submission) -> u64 
     // "Last clock becomes now".
     ledger.clock = s.now;
     // "all but sweep add one journal row, with the record's fields, now as
-    // settled at, and the answer word".
+    // settled at, and the answer word". The operation is the record's byte: of
+    // an accept and a dispute alike 7 in the new form.
     if operation != Operation::Sweep {
         ledger.journal.add(Entry {
             signer: s.signer,
