@@ -38,24 +38,24 @@ fn world() -> World {
     after(claims()[0])
 }
 
-/// 7 accepts (7) or disputes (8) receipt 1.
-fn reply(op: u8, now: u64) -> Submission {
-    close(op, now, 7, 9, 1)
+/// 7 accepts or disputes receipt 1.
+fn of_7(reply: Reply, now: u64) -> Submission {
+    reply(now, 7, 9, 1)
 }
 
 #[test]
 fn at_the_deadline_is_in_time_and_one_millisecond_later_is_not() {
     for claim in claims() {
-        for (op, state) in [(7, 2), (8, 3)] {
+        for (reply, state) in REPLIES.into_iter().zip([2, 3]) {
             for now in [NOW, WINDOW - 1, WINDOW] {
                 let mut w = after(claim);
-                let released = op == 7 && claim.link == 1;
-                assert_eq!(w.settles(reply(op, now)), u64::from(released));
+                let released = state == 2 && claim.link == 1;
+                assert_eq!(w.settles(of_7(reply, now)), u64::from(released));
                 assert_eq!(w.receipt(1)[5..10], [state, NOW, now, 7, 0]);
             }
             let mut w = after(claim);
-            w.refuses(reply(op, WINDOW + 1), 41);
-            w.refuses(reply(op, DEADLINE), 41);
+            w.refuses(of_7(reply, WINDOW + 1), 41);
+            w.refuses(of_7(reply, DEADLINE), 41);
         }
     }
 }
@@ -65,15 +65,15 @@ fn two_days_are_no_limit_and_a_late_sweep_is_no_excuse() {
     for claim in claims() {
         let mut w = after(claim);
         for late in [2 * DAY - 1, 2 * DAY, 2 * DAY + 1, TIME - 60_000 - WINDOW] {
-            w.refuses(reply(8, WINDOW + late), 41);
-            w.refuses(reply(7, WINDOW + late), 41);
+            w.refuses(of_7(dispute, WINDOW + late), 41);
+            w.refuses(of_7(accept, WINDOW + late), 41);
         }
     }
 }
 
 #[test]
 fn a_claim_made_at_its_deadline_can_be_answered_at_that_moment_only() {
-    for op in [7, 8] {
+    for reply in REPLIES {
         // Issued five minutes before, as check 24 wants.
         let last = Submission {
             issued: WINDOW - 300_000,
@@ -82,18 +82,18 @@ fn a_claim_made_at_its_deadline_can_be_answered_at_that_moment_only() {
         };
         let mut w = before_a_claim();
         w.settles(last);
-        w.refuses(reply(op, WINDOW + 1), 41);
-        w.settles(reply(op, WINDOW));
+        w.refuses(of_7(reply, WINDOW + 1), 41);
+        w.settles(of_7(reply, WINDOW));
     }
 }
 
 #[test]
 fn each_receipt_has_its_own_deadline() {
-    for op in [7, 8] {
+    for reply in REPLIES {
         let mut w = world();
         w.settles(claim(NOW, 8, 2, 7, WINDOW + 1, 0));
         w.settles(claim(NOW, 8, 3, 7, WINDOW + 2, 1));
-        let of = |receipt, now| close(op, now, 7, 9 + receipt, receipt);
+        let of = |receipt, now| reply(now, 7, 9 + receipt, receipt);
         w.refuses(of(1, WINDOW + 1), 41);
         w.settles(of(2, WINDOW + 1));
         w.refuses(of(1, WINDOW + 2), 41);
@@ -105,32 +105,32 @@ fn each_receipt_has_its_own_deadline() {
 /// A lent receipt's deadline may be any time.
 #[test]
 fn the_receipts_word_decides_and_no_other_time() {
-    for op in [7, 8] {
+    for reply in REPLIES {
         // before it was claimed, and after the escrow's deadline
         for deadline in [NOW - 1, NOW, WINDOW + 7, DEADLINE + 9, TIME - 60_001] {
             let mut w = world();
             w.receipts[3] = deadline;
             assert!(w.sound());
-            w.refuses(reply(op, deadline.max(NOW - 1) + 1), 41);
+            w.refuses(of_7(reply, deadline.max(NOW - 1) + 1), 41);
             if deadline >= NOW {
-                w.settles(reply(op, deadline));
+                w.settles(of_7(reply, deadline));
             }
         }
         // 0 is a time as any other, and not the lack of a deadline
         let mut w = world();
         w.receipts[3] = 0;
-        w.refuses(reply(op, NOW), 41);
+        w.refuses(of_7(reply, NOW), 41);
         w.header[2] = 0;
-        w.refuses(reply(op, 1), 41);
-        w.settles(reply(op, 0));
+        w.refuses(of_7(reply, 1), 41);
+        w.settles(of_7(reply, 0));
         // the last time of all never comes to an end
         let last = Submission {
             expires: TIME,
-            ..signed(op, TIME, 7, 9)
+            ..signed(7, TIME, 7, 9)
         };
         let last = Submission {
             target: 1,
-            flags: reply(op, NOW).flags,
+            flags: of_7(reply, NOW).flags,
             ..last
         };
         let mut w = world();
@@ -143,19 +143,19 @@ fn the_receipts_word_decides_and_no_other_time() {
             let mut w = world();
             w.receipts[6..8].copy_from_slice(&[claimed, closed]);
             w.escrows[3] = 0;
-            w.refuses(reply(op, WINDOW + 1), 41);
-            w.settles(reply(op, WINDOW));
+            w.refuses(of_7(reply, WINDOW + 1), 41);
+            w.settles(of_7(reply, WINDOW));
         }
     }
 }
 
 #[test]
 fn now_decides_and_not_the_envelope() {
-    for op in [7, 8] {
+    for reply in REPLIES {
         let sent = |now, issued, expires| Submission {
             issued,
             expires,
-            ..reply(op, now)
+            ..of_7(reply, now)
         };
         // issued in time and come late
         let mut w = world();
@@ -168,33 +168,33 @@ fn now_decides_and_not_the_envelope() {
 
 #[test]
 fn the_clock_does_not_go_back_to_the_window() {
-    for op in [7, 8] {
+    for reply in REPLIES {
         let mut w = world();
         w.settles(grant(WINDOW + 1, 2, 9, 5));
-        w.refuses(reply(op, WINDOW), 4);
-        w.refuses(reply(op, WINDOW + 1), 41);
+        w.refuses(of_7(reply, WINDOW), 4);
+        w.refuses(of_7(reply, WINDOW + 1), 41);
         // Nor does a system that was frozen until then make the window longer.
         let mut w = world();
         w.settles(freeze(NOW, 2, 0, true));
-        w.refuses(reply(op, WINDOW), 5);
-        w.refuses(reply(op, WINDOW + 1), 5);
+        w.refuses(of_7(reply, WINDOW), 5);
+        w.refuses(of_7(reply, WINDOW + 1), 5);
         w.settles(freeze(WINDOW + 1, 3, 0, false));
-        w.refuses(reply(op, WINDOW + 1), 41);
+        w.refuses(of_7(reply, WINDOW + 1), 41);
     }
 }
 
 #[test]
 fn a_refused_reply_ends_nothing() {
-    for op in [7, 8] {
+    for reply in REPLIES {
         let mut w = world();
         let before = w.clone();
-        assert_eq!(w.send(&reply(op, WINDOW + 1)), (41, 0));
+        assert_eq!(w.send(&of_7(reply, WINDOW + 1)), (41, 0));
         // The receipt is pending still, and a lookup hands back its row as it was.
         assert!(w == before);
         assert_eq!(receipt_row(&w.header, &w.receipts, 1), before.receipt(1));
         assert_eq!(w.receipt(1)[5..10], [1, NOW, 0, 0, 0]);
         // The clock has not moved: a record of the deadline is in time, by the same nonce.
-        w.settles(reply(op, WINDOW));
+        w.settles(of_7(reply, WINDOW));
         assert_eq!(w.header[2], WINDOW);
     }
 }
@@ -205,8 +205,8 @@ fn the_sweep_is_late_and_still_closes() {
         for late in [1, DAY] {
             let now = WINDOW + late;
             let mut w = after(claim);
-            w.refuses(reply(8, now), 41);
-            w.refuses(reply(7, now), 41);
+            w.refuses(of_7(dispute, now), 41);
+            w.refuses(of_7(accept, now), 41);
             // With a day's delay the escrow is stale too.
             let stale = u64::from(now > DEADLINE);
             assert_eq!(w.settles(sweep(now, 1_000)), 1 + stale);
@@ -229,27 +229,27 @@ fn a_pending_receipt_can_be_answered_exactly_while_no_sweep_would_close_it() {
     for claim in claims() {
         for now in [NOW, WINDOW - 1, WINDOW, WINDOW + 1, WINDOW + 2, DEADLINE] {
             let swept = after(claim).settles(sweep(now, 1_000));
-            for op in [7, 8] {
-                let (answer, _) = after(claim).send(&reply(op, now));
+            for reply in REPLIES {
+                let (answer, _) = after(claim).send(&of_7(reply, now));
                 assert_eq!(answer, 41 * swept, "at {}", now);
             }
         }
     }
 }
 
-/// Only 7 and 8 are refused: the skipper may still pay, or take back what is held.
+/// Only replies are refused: the skipper may still pay, or take back what is held.
 #[test]
 fn other_operations_do_not_ask_for_the_window() {
     for (op, state, paid) in [(4, 2, 1_000), (5, 3, 0)] {
         for now in [WINDOW + 1, DEADLINE] {
             let mut w = after(claims()[2]);
-            w.refuses(reply(7, now), 41);
+            w.refuses(of_7(accept, now), 41);
             // by the number of the escrow, with the nonce that 41 did not burn
             assert_eq!(w.settles(close(op, now, 7, 9, 1)), 0);
             assert_eq!(w.escrow(1)[4..], [state, NOW, now, 7]);
             assert_eq!(w.has(8), (paid, 0));
             // The receipt is not closed by it, and its sweep finds nothing to release.
-            w.refuses(close(7, now, 7, 10, 1), 41);
+            w.refuses(accept(now, 7, 10, 1), 41);
             assert_eq!(w.settles(sweep(now, 1_000)), 1);
             assert_eq!(w.receipt(1)[5..10], [2, NOW, now, 0, 29]);
         }
@@ -257,12 +257,12 @@ fn other_operations_do_not_ask_for_the_window() {
     // A second claim on the same escrow has a window of its own.
     let mut w = world();
     let now = WINDOW + 1;
-    w.refuses(reply(7, now), 41);
+    w.refuses(of_7(accept, now), 41);
     w.settles(claim(now, 8, 2, 7, DEADLINE, 1));
-    w.refuses(close(7, DEADLINE, 7, 9, 1), 41);
-    assert_eq!(w.settles(close(7, DEADLINE, 7, 9, 2)), 1);
+    w.refuses(accept(DEADLINE, 7, 9, 1), 41);
+    assert_eq!(w.settles(accept(DEADLINE, 7, 9, 2)), 1);
     assert_eq!(w.has(8), (1_000, 0));
-    w.refuses(close(7, DEADLINE, 7, 10, 1), 41);
+    w.refuses(accept(DEADLINE, 7, 10, 1), 41);
     // Those that name no receipt do not ask, whatever receipt has their target's number.
     w.settles(transfer(DEADLINE, 7, 11, 1, 5));
     w.settles(grant(DEADLINE, 3, 1, 5));
@@ -278,9 +278,9 @@ fn an_accept_in_time_finds_its_escrow_not_stale() {
     w.refuses(claim(NOW, 8, 1, 7, DEADLINE + 1, 1), 31);
     w.settles(auto(claim(NOW, 8, 1, 7, DEADLINE, 1)));
     let mut at = w.clone();
-    assert_eq!(at.settles(reply(7, DEADLINE)), 1);
+    assert_eq!(at.settles(of_7(accept, DEADLINE)), 1);
     assert_eq!(at.receipt(1)[9], 0);
-    w.refuses(reply(7, DEADLINE + 1), 41);
+    w.refuses(of_7(accept, DEADLINE + 1), 41);
     assert_eq!(w.settles(sweep(DEADLINE + 1, 1)), 1);
     assert_eq!(w.receipt(1)[9], 29);
 }

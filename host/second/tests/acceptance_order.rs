@@ -19,13 +19,6 @@ fn with_journal(room: usize) -> World {
     world
 }
 
-fn without_a_reason(s: Submission) -> Submission {
-    Submission {
-        flags: s.flags & !REASON,
-        ..s
-    }
-}
-
 #[test]
 fn a_closed_receipt_still_answers_34() {
     let auto_accepted = {
@@ -37,14 +30,14 @@ fn a_closed_receipt_still_answers_34() {
     };
     // accepted, disputed, expired, and accepted by the sweep
     let ends = [
-        (with_journal(9), close(7, NOW, 7, 2, 1), 2),
-        (with_journal(9), close(8, WINDOW, 7, 2, 1), 3),
+        (with_journal(9), accept(NOW, 7, 2, 1), 2),
+        (with_journal(9), dispute(WINDOW, 7, 2, 1), 3),
         (with_journal(9), sweep(LATE, 1), 4),
         (auto_accepted, sweep(LATE, 1), 2),
     ];
     for (mut w, end, state) in ends {
         // Before it is closed, the same records are answered 41.
-        let replies = [7, 8].map(|op| close(op, LATE, 7, 9, 1));
+        let replies = REPLIES.map(|reply| reply(LATE, 7, 9, 1));
         for late in replies {
             w.refuses(late, 41);
         }
@@ -63,8 +56,8 @@ fn a_closed_receipt_still_answers_34() {
             }
         }
         if end.op != 9 {
-            for op in [7, 8] {
-                w.refuses(close(op, WINDOW, 7, 9, 1), 34);
+            for reply in REPLIES {
+                w.refuses(reply(WINDOW, 7, 9, 1), 34);
             }
         }
     }
@@ -73,53 +66,53 @@ fn a_closed_receipt_still_answers_34() {
 #[test]
 fn a_late_dispute_without_a_reason_is_late() {
     let mut w = with_journal(9);
-    let dispute = |now| without_a_reason(close(8, now, 7, 9, 1));
-    w.refuses(dispute(NOW), 35);
-    w.refuses(dispute(WINDOW), 35);
+    let bare = |now| without_a_reason(dispute(now, 7, 9, 1));
+    w.refuses(bare(NOW), 35);
+    w.refuses(bare(WINDOW), 35);
     // 35 is the lower number and the later row.
-    w.refuses(dispute(LATE), 41);
-    w.refuses(close(8, LATE, 7, 9, 1), 41);
+    w.refuses(bare(LATE), 41);
+    w.refuses(dispute(LATE, 7, 9, 1), 41);
 }
 
 #[test]
 fn on_a_full_journal_a_late_reply_is_late() {
     let mut w = with_journal(3);
-    for op in [7, 8] {
+    for reply in REPLIES {
         // 40 is the lower number and the later row.
-        w.refuses(close(op, LATE, 7, 9, 1), 41);
-        w.refuses(close(op, WINDOW, 7, 9, 1), 40);
+        w.refuses(reply(LATE, 7, 9, 1), 41);
+        w.refuses(reply(WINDOW, 7, 9, 1), 40);
     }
-    let dispute = |now| without_a_reason(close(8, now, 7, 9, 1));
-    w.refuses(dispute(LATE), 41);
-    w.refuses(dispute(WINDOW), 35);
+    let bare = |now| without_a_reason(dispute(now, 7, 9, 1));
+    w.refuses(bare(LATE), 41);
+    w.refuses(bare(WINDOW), 35);
 }
 
 #[test]
 fn a_missing_receipt_and_a_stranger_come_first() {
     let mut w = with_journal(9);
-    for op in [7, 8] {
+    for reply in REPLIES {
         for target in [0, 2, u64::MAX] {
-            w.refuses(close(op, LATE, 7, 9, target), 32);
+            w.refuses(reply(LATE, 7, 9, target), 32);
         }
         // The words of the unwritten row 2 are one of 7's receipts that is late.
         let row = w.receipt(1).to_vec();
         w.receipts[14..28].copy_from_slice(&row);
-        w.refuses(close(op, LATE, 7, 9, 2), 32);
+        w.refuses(reply(LATE, 7, 9, 2), 32);
         for stranger in [1, 8, 9] {
-            w.refuses(close(op, LATE, stranger, 9, 1), 33);
+            w.refuses(reply(LATE, stranger, 9, 1), 33);
         }
     }
 }
 
 /// Every way in which a reply can be refused, alone and together with the others: for each, what
 /// has to be so. `wrong` has one bit for each row below, in the table's order.
-fn reply(op: u8, wrong: u32) -> (World, Submission) {
+fn refused(reply: Reply, wrong: u32) -> (World, Submission) {
     let is = |row: usize| wrong & (1 << row) != 0;
     let mut w = with_journal(if is(10) { 3 } else { 9 });
     let now = if is(8) { LATE } else { WINDOW };
     let signer = if is(6) { 8 } else { 7 };
     let nonce = if is(4) { 1 } else { 9 };
-    let mut s = close(op, now, signer, nonce, if is(5) { 2 } else { 1 });
+    let mut s = reply(now, signer, nonce, if is(5) { 2 } else { 1 });
     w.header[2] = if is(0) { now + 1 } else { now };
     w.header[1] = u64::from(is(1));
     if is(2) {
@@ -143,7 +136,7 @@ const ROWS: [u64; 11] = [4, 5, 6, 9, 11, 32, 33, 34, 41, 35, 40];
 
 #[test]
 fn the_answer_is_the_first_of_the_tables_rows_that_holds() {
-    for op in [7, 8] {
+    for (reply, needs_a_reason) in REPLIES.into_iter().zip([false, true]) {
         for wrong in 0..1 << ROWS.len() {
             let holds = |row: usize| {
                 let about_the_receipt = matches!(ROWS[row], 33 | 34 | 41);
@@ -151,9 +144,9 @@ fn the_answer_is_the_first_of_the_tables_rows_that_holds() {
                     // no condition holds about a row that isn't there
                     && !(about_the_receipt && wrong & (1 << 5) != 0)
                     // an accept needs no reason
-                    && !(ROWS[row] == 35 && op == 7)
+                    && (ROWS[row] != 35 || needs_a_reason)
             };
-            let (mut w, s) = reply(op, wrong);
+            let (mut w, s) = refused(reply, wrong);
             match (0..ROWS.len()).find(|&row| holds(row)) {
                 Some(row) => w.refuses(s, ROWS[row]),
                 None => drop(w.settles(s)),

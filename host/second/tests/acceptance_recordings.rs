@@ -19,14 +19,14 @@ fn story() -> Vec<Submission> {
         grant(NOW, 1, 7, 50_000),
         open(NOW, 7, 1, 8, 1_000, DEADLINE),
         auto(claim(NOW, 8, 1, 7, WINDOW, 1)),
-        close(7, LATE, 7, 2, 1),
-        close(8, LATE, 7, 2, 1),
+        accept(LATE, 7, 2, 1),
+        dispute(LATE, 7, 2, 1),
         Submission {
             flags: SIGNED,
-            ..close(8, LATE, 7, 2, 1)
+            ..dispute(LATE, 7, 2, 1)
         },
         sweep(LATE, 5),
-        close(7, LATE, 7, 2, 1),
+        accept(LATE, 7, 2, 1),
     ]
 }
 
@@ -124,8 +124,8 @@ fn the_grid_has_a_column_for_41() {
         (1, 0, 1),
         (3, 0, 1),
         (6, 0, 1),
-        (7, 41, 1),
-        (8, 41, 2),
+        // since request 7/13 a dispute is in the row of the accept
+        (7, 41, 3),
         (9, 0, 1),
         (7, 34, 1),
     ] {
@@ -155,7 +155,8 @@ fn what_is_counted_is_41_whatever_was_recorded() {
 #[test]
 fn a_cell_of_41_may_be_2_to_the_64_less_1_and_no_more() {
     // an accept, two disputes: the entry that would pass
-    for (operation, room, stops) in [(7, 0, Some(4)), (7, 1, None), (8, 1, Some(6)), (8, 2, None)] {
+    for (room, stops) in [(0, Some(4)), (1, Some(5)), (2, Some(6)), (3, None)] {
+        let operation = 7;
         let mut report = Report::default();
         report.grid[operation][41] = u64::MAX - room;
         let mut world = World::usual();

@@ -113,9 +113,9 @@ fn p11_two_claims_on_one_escrow() {
     let until = NOW + 300_000;
     assert_eq!(world.settles(claim(NOW, 8, 1, 7, until, 1)), 1);
     assert_eq!(world.settles(claim(NOW, 8, 2, 7, until, 1)), 2);
-    assert_eq!(world.settles(close(7, NOW + 1, 7, 2, 1)), 1);
+    assert_eq!(world.settles(accept(NOW + 1, 7, 2, 1)), 1);
     assert_eq!(world.has(8), (20_000_000, 0));
-    assert_eq!(world.settles(close(7, NOW + 2, 7, 3, 2)), 0);
+    assert_eq!(world.settles(accept(NOW + 2, 7, 3, 2)), 0);
     assert_eq!(world.has(8), (20_000_000, 0));
     let hash = [11, 12, 13, 14];
     let first = [8, 7, 1, until, 0, 2, NOW, NOW + 1, 7, 0];

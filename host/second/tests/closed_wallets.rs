@@ -200,9 +200,9 @@ fn pending_receipts_do_not_keep_a_wallet_open() {
         assert_eq!(w.receipt(number)[5], 1);
     }
     // They are answered, also by the wallet that is closed, and swept as before.
-    w.settles(close(7, NOW, 7, 4, 1));
-    w.settles(close(8, NOW, 9, 4, 3));
-    w.settles(close(7, NOW, 9, 5, 4));
+    w.settles(accept(NOW, 7, 4, 1));
+    w.settles(dispute(NOW, 9, 4, 3));
+    w.settles(accept(NOW, 9, 5, 4));
     assert_eq!(w.settles(sweep(WINDOW + 1, 9)), 1);
     let states = [1, 2, 3, 4].map(|number| w.receipt(number)[5]);
     assert_eq!(states, [2, 2, 3, 2]);

@@ -1,4 +1,4 @@
-//! Request 6/13: what each of the twelve operations does with a closed signer and a closed target,
+//! Request 6/13: what each of the operations, an accept and a dispute by themselves, does with a closed signer and a closed target,
 //! and tables that are lent with a closed wallet that has credits or escrows.
 
 mod common;
@@ -22,7 +22,7 @@ fn world() -> World {
     world
 }
 
-/// One of each operation, all of which settle where no wallet is closed.
+/// One of each operation, both replies to a claim, all of which settle where no wallet is closed.
 fn each() -> [Submission; 12] {
     [
         grant(NOW, 99, 8, 5),
@@ -31,8 +31,8 @@ fn each() -> [Submission; 12] {
         close(4, NOW, 7, 99, 1),
         close(5, NOW, 7, 99, 1),
         claim(NOW, 8, 99, 7, WINDOW, 1),
-        close(7, NOW, 7, 99, 1),
-        close(8, NOW, 7, 99, 1),
+        accept(NOW, 7, 99, 1),
+        dispute(NOW, 7, 99, 1),
         sweep(WINDOW + 1, 9),
         freeze(NOW, 99, 9, true),
         caps(NOW, 99, 9, 5, 5),
@@ -40,8 +40,7 @@ fn each() -> [Submission; 12] {
     ]
 }
 
-/// For operations 1 to 12, those of the wallets 1, 7, 8 and 9 that a record above may not name if
-/// they are closed.
+/// Those of the wallets 1, 7, 8 and 9 that each record above may not name if they are closed.
 const REFUSED: [&[u64]; 12] = [
     // target
     &[8],
@@ -106,11 +105,11 @@ fn what_each_operation_does_where_all_wallets_are_closed() {
 /// "refusal 14 is given for the word 1 only", and 43 for the word 2 only.
 #[test]
 fn frozen_is_not_closed() {
-    for (op, s) in (1..).zip(each()) {
+    for s in each() {
         for id in [1, 7, 8, 9] {
             let mut w = world();
             w.set_frozen(id, 1);
-            if matches!(op, 2 | 3) && id == 7 {
+            if matches!(s.op, 2 | 3) && id == 7 {
                 w.refuses(s, 14);
             } else {
                 w.settles(s);
@@ -119,17 +118,25 @@ fn frozen_is_not_closed() {
     }
 }
 
-/// Where the words of 4, 5, 7, 8 and 9 have the number or id of a closed wallet, they name none.
+/// Where the words of 4, 5, 7 and 9 have the number or id of a closed wallet, they name none.
 #[test]
 fn the_number_of_an_escrow_or_a_receipt_is_no_wallets_id() {
-    for op in [4, 5, 7, 8] {
+    let of = |target| {
+        [
+            (close(4, NOW, 7, 99, target), 27),
+            (close(5, NOW, 7, 99, target), 27),
+            (accept(NOW, 7, 99, target), 32),
+            (dispute(NOW, 7, 99, target), 32),
+        ]
+    };
+    for ((s, _), (missing, number)) in of(1).into_iter().zip(of(9)) {
         let mut w = world();
         w.set_frozen(1, 2);
-        w.settles(close(op, NOW, 7, 99, 1));
+        w.settles(s);
         // Nor is there an escrow or receipt 9 because there is a closed wallet.
         let mut w = world();
         w.set_frozen(9, 2);
-        w.refuses(close(op, NOW, 7, 99, 9), if op < 6 { 27 } else { 32 });
+        w.refuses(missing, number);
     }
     // a limit
     let mut w = world();
@@ -181,7 +188,7 @@ fn a_missing_wallet_and_a_closed_one() {
 fn a_release_pays_a_closed_wallet() {
     for s in [
         close(4, NOW, 7, 99, 1),
-        close(7, NOW, 7, 99, 1),
+        accept(NOW, 7, 99, 1),
         sweep(WINDOW + 1, 9),
     ] {
         let mut w = world();

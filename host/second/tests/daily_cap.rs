@@ -91,10 +91,7 @@ fn no_end_of_a_hold_gives_room_back() {
     let ends: [(u64, &[Submission]); 5] = [
         (3, &[close(5, NOW + 1, 7, 2, 1)]),
         (2, &[close(4, NOW + 1, 7, 2, 1)]),
-        (
-            2,
-            &[claim(NOW, 8, 1, 7, claimed, 1), close(7, NOW, 7, 2, 1)],
-        ),
+        (2, &[claim(NOW, 8, 1, 7, claimed, 1), accept(NOW, 7, 2, 1)]),
         (
             2,
             &[auto(claim(NOW, 8, 1, 7, claimed, 1)), sweep(claimed + 1, 1)],

@@ -47,7 +47,7 @@ fn it_is_seen_at_any_time_and_for_any_operation() {
             world.refuses(by(signer, nonce, NOW + span), 11);
         }
         world.refuses(transfer(NOW, signer, nonce, 8, 1), 11);
-        world.refuses(close(7, NOW, signer, nonce, 1), 11);
+        world.refuses(accept(NOW, signer, nonce, 1), 11);
         let place = 8 * (row as usize - 1);
         for operation in [0, 9, 12, u64::MAX] {
             world.journal[place + 2] = operation;

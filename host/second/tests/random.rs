@@ -21,8 +21,8 @@ fn random_submission(dice: &mut Dice, w: &World, now: u64) -> Submission {
         3..=5 => open(now, signer, nonce, target, amount, now + span),
         6 => close(4, now, signer, nonce, escrow),
         7 => close(5, now, signer, nonce, escrow),
-        8 | 9 => close(7, now, signer, nonce, receipt),
-        10 => close(8, now, signer, nonce, receipt),
+        8 | 9 => accept(now, signer, nonce, receipt),
+        10 => dispute(now, signer, nonce, receipt),
         11..=14 => claim(now, signer, nonce, target, now + span, escrow),
         15 => return sweep(now, dice.below(6)),
         16 => freeze(now, nonce, target, dice.below(8) == 0),
@@ -33,7 +33,7 @@ fn random_submission(dice: &mut Dice, w: &World, now: u64) -> Submission {
         s.target = w.escrow(escrow as usize)[0];
         s.signer = w.escrow(escrow as usize)[1];
     }
-    if matches!(s.op, 7 | 8) && (1..=w.header[6]).contains(&receipt) && dice.below(2) == 0 {
+    if s.op == 7 && (1..=w.header[6]).contains(&receipt) && dice.below(2) == 0 {
         s.signer = w.receipt(receipt as usize)[1];
     }
     if s.op == 6 && dice.below(2) == 0 {
@@ -135,7 +135,7 @@ fn one_run(seed: u64, answers: &mut BTreeSet<u64>) {
         let before = w.clone();
         let (answer, word) = w.send(&s);
         answers.insert(answer);
-        if matches!(s.op, 7 | 8) && matches!(answer, 0 | 41) {
+        if s.op == 7 && matches!(answer, 0 | 41) {
             // Both are pending; the one that settles is in time, the other is not.
             let receipt = before.receipt(s.target as usize);
             assert_eq!(receipt[5], 1);
@@ -163,6 +163,12 @@ fn one_run(seed: u64, answers: &mut BTreeSet<u64>) {
             assert_eq!(w.frozen(row[0]) == 2, closed);
         }
         assert_eq!(w.header[2], s.now);
+        if s.op == 7 {
+            // "bit 2 for accept, clear for dispute", and a dispute settles with a reason only
+            let accepts = s.flags & BIT2 != 0;
+            assert_eq!(w.receipt(s.target as usize)[5], if accepts { 2 } else { 3 });
+            assert!(accepts || (s.flags & REASON != 0 && word == 0));
+        }
         if s.op == 9 {
             assert_eq!(word, s.amount.min(due(&before, s.now)));
             for (number, (old, new)) in (1..).zip(states(&before).iter().zip(states(&w))) {

@@ -8,10 +8,28 @@ fn none() -> (u64, Submission) {
     (3, Submission::default())
 }
 
+/// The operations, each with the flag bits that it uses besides bit 0. Since request 7/13 operation 7
+/// is an accept or a dispute, and 8 is none.
+const OPERATIONS: [(u8, u8); 12] = [
+    (1, ADMIN),
+    (2, 0),
+    (3, 0),
+    (4, ADMIN),
+    (5, ADMIN),
+    (6, BIT2),
+    (7, BIT2),
+    (7, REASON),
+    (9, 0),
+    (10, ADMIN | BIT2),
+    (11, ADMIN),
+    (12, ADMIN),
+];
+
 /// One well-formed submission of each operation, every used part nonzero.
 fn one_of_each() -> Vec<Submission> {
-    (1..=12)
-        .map(|op| {
+    OPERATIONS
+        .iter()
+        .map(|&(op, bits)| {
             let s = if op == 9 {
                 sweep(5, 6)
             } else {
@@ -31,13 +49,7 @@ fn one_of_each() -> Vec<Submission> {
             if op == 6 {
                 s.hash = [1, 2 << 56, 3, u64::MAX];
             }
-            s.flags |= match op {
-                1 | 4 | 5 | 11 | 12 => ADMIN,
-                6 => BIT2,
-                8 => REASON,
-                10 => ADMIN | BIT2,
-                _ => 0,
-            };
+            s.flags |= bits;
             s
         })
         .collect()
@@ -79,24 +91,24 @@ fn the_bytes_stand_in_order() {
 
 #[test]
 fn whatever_an_operation_does_not_use_is_zero() {
-    // By operation: flag bits, then signer, nonce, issued with expires,
-    // target, amount, until, link, hash.
-    let uses: [(u8, &str); 12] = [
-        (0b0011, "sniTA"),
-        (0b0001, "sniTA"),
-        (0b0001, "sniTAU"),
-        (0b0011, "sniT"),
-        (0b0011, "sniT"),
-        (0b0101, "sniTULH"),
-        (0b0001, "sniT"),
-        (0b1001, "sniT"),
-        (0b0000, "A"),
-        (0b0111, "sniT"),
-        (0b0011, "sniTAL"),
+    // By operation: flag bits, each by itself, then signer, nonce, issued with
+    // expires, target, amount, until, link, hash.
+    let uses: [(u8, u8, &str); 11] = [
+        (1, 0b0011, "sniTA"),
+        (2, 0b0001, "sniTA"),
+        (3, 0b0001, "sniTAU"),
+        (4, 0b0011, "sniT"),
+        (5, 0b0011, "sniT"),
+        (6, 0b0101, "sniTULH"),
+        // Since request 7/13 also what was 8; bits 2 and 3 not together.
+        (7, 0b1101, "sniT"),
+        (9, 0b0000, "A"),
+        (10, 0b0111, "sniT"),
+        (11, 0b0011, "sniTAL"),
         // Since request 6/13.
-        (0b0011, "sniT"),
+        (12, 0b0011, "sniT"),
     ];
-    for (op, (bits, parts)) in (1..).zip(uses) {
+    for (op, bits, parts) in uses {
         let plain = Submission {
             op,
             signer: u64::from(op != 9),
@@ -140,16 +152,10 @@ fn whatever_an_operation_does_not_use_is_zero() {
 
 /// Reader and writer must agree; the raw bytes are made here.
 fn well_formed(s: &Submission) -> bool {
-    let mut raw = vec![0xA7, 0x3C, s.op, s.flags];
-    let words = [
-        s.now, s.signer, s.nonce, s.issued, s.expires, s.target, s.amount, s.until, s.link,
-    ];
-    for word in words.iter().chain(&s.hash) {
-        raw.extend_from_slice(&word.to_le_bytes());
-    }
+    let raw = raw(s);
     let mut out = [0x55; 108];
     if write(s, &mut out) == 0 {
-        assert_eq!(out[..], raw[..]);
+        assert_eq!(out, raw);
         assert_eq!(read(&raw), (0, *s));
         true
     } else {
@@ -163,8 +169,9 @@ fn well_formed(s: &Submission) -> bool {
 fn malformed_fields() {
     let base = claim(5, 6, 7, 8, 9, 0);
     assert!(well_formed(&base));
-    let wrong: [fn(&mut Submission); 8] = [
+    let wrong: [fn(&mut Submission); 9] = [
         |s| s.op = 0,
+        |s| s.op = 8,
         |s| s.op = 13,
         |s| s.op = 255,
         |s| s.signer = 0,
@@ -200,7 +207,7 @@ fn no_other_byte_is_an_operation() {
         signer: 6,
         ..Submission::default()
     };
-    for op in (0..=255).filter(|op| !(1..=12).contains(op)) {
+    for op in (0..=255).filter(|op| !matches!(op, 1..=7 | 9..=12)) {
         for s in one_of_each().into_iter().chain([bare, sweep(5, 6)]) {
             assert!(!well_formed(&Submission { op, ..s }), "{}", op);
         }
@@ -230,7 +237,7 @@ fn malformed_marks_and_lengths() {
 fn random_bytes_agree_with_the_writer() {
     let mut dice = Dice(1);
     for _ in 0..200_000 {
-        let mut raw = bytes(&one_of_each()[dice.below(12) as usize]);
+        let mut raw = bytes(&one_of_each()[dice.below(OPERATIONS.len() as u64) as usize]);
         for _ in 0..=dice.below(2) {
             let at = dice.below(108) as usize;
             raw[at] = dice.pick(&[0, 1, 2, 4, 8, dice.0 & 255]) as u8;

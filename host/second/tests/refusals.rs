@@ -73,8 +73,11 @@ fn clock_freeze_signature_admin() {
     assert_eq!(w.header[1], 1);
     w.refuses(unsigned(grant(NOW, 10, 7, 5)), 5);
     w.refuses(sweep(NOW, 0), 5);
-    for op in 2..=8 {
+    for op in 2..=7 {
         w.refuses(unsigned(signed(op, NOW, 7, 10)), 5);
+    }
+    for reply in REPLIES {
+        w.refuses(reply(NOW, 7, 10, 1), 5);
     }
     w.settles(caps(NOW, 10, 7, 1, 2));
     w.settles(freeze(NOW, 11, 0, false));
@@ -202,24 +205,24 @@ fn closings() {
         w.refuses(close(op, DEADLINE + 1, 8, 9, 1), 28);
         w.refuses(close(op, DEADLINE + 1, 7, 9, 1), 29);
     }
-    for op in [7, 8] {
-        w.refuses(close(op, NOW, 7, 9, 0), 32);
-        w.refuses(close(op, NOW, 7, 9, 2), 32);
-        w.refuses(close(op, NOW, 8, 9, 1), 33);
+    for reply in REPLIES {
+        w.refuses(reply(NOW, 7, 9, 0), 32);
+        w.refuses(reply(NOW, 7, 9, 2), 32);
+        w.refuses(reply(NOW, 8, 9, 1), 33);
     }
     let no_reason = Submission {
         flags: SIGNED,
-        ..close(8, NOW, 7, 9, 1)
+        ..dispute(NOW, 7, 9, 1)
     };
     w.refuses(no_reason, 35);
     // 41 has tests of its own, and so has its place.
-    for op in [7, 8] {
-        w.refuses(close(op, NOW + 400_001, 7, 9, 1), 41);
+    for reply in REPLIES {
+        w.refuses(reply(NOW + 400_001, 7, 9, 1), 41);
     }
-    w.settles(close(7, NOW, 7, 9, 1));
-    for op in [7, 8] {
-        w.refuses(close(op, NOW, 8, 10, 1), 33);
-        w.refuses(close(op, NOW, 7, 10, 1), 34);
+    w.settles(accept(NOW, 7, 9, 1));
+    for reply in REPLIES {
+        w.refuses(reply(NOW, 8, 10, 1), 33);
+        w.refuses(reply(NOW, 7, 10, 1), 34);
     }
     w.refuses(no_reason, 11);
     w.refuses(

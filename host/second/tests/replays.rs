@@ -229,7 +229,7 @@ fn random_recordings_agree_and_bytes_by_chance_never_panic() {
                 1 => transfer(now, signer, nonce, target, 10),
                 2 => open(now, signer, nonce, target, 20, until),
                 3 => claim(now, signer, nonce, target, until, dice.below(3)),
-                4 => close(7, now, signer, nonce, dice.below(4)),
+                4 => accept(now, signer, nonce, dice.below(4)),
                 5 => close_wallet(now, nonce, target),
                 _ => sweep(now, dice.below(4)),
             });

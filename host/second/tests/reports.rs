@@ -114,13 +114,13 @@ fn story() -> Vec<Submission> {
         auto(claim(NOW, 8, 2, 7, WINDOW, 4)),
         claim(NOW, 8, 3, 7, WINDOW, 5),
         // released 3,000
-        close(7, NOW, 7, 9, 1),
+        accept(NOW, 7, 9, 1),
         // receipt 2 is accepted: released 4,000; receipt 3 expires
         sweep(WINDOW + 1, 10),
         // escrow 5 expires: 5,000
         sweep(LATE, 10),
         claim(LATE, 8, 4, 7, LATE + 300_000, 0),
-        close(8, LATE, 7, 10, 4),
+        dispute(LATE, 7, 10, 4),
         caps(LATE, 2, 7, 10, 20),
         freeze(LATE, 3, 7, true),
     ]
@@ -134,8 +134,8 @@ fn grid_of_the_story() -> Grid {
         (4, 0, 1),
         (5, 0, 1),
         (6, 0, 4),
-        (7, 0, 1),
-        (8, 0, 1),
+        // an accept and, since request 7/13, a dispute
+        (7, 0, 2),
         (9, 0, 2),
         (10, 0, 1),
         (11, 0, 1),
@@ -193,8 +193,8 @@ fn refusals_have_their_columns_and_move_no_credits() {
         open(NOW, 7, 1, 8, 600, NOW),
         close(4, NOW, 7, 1, 1),
         close(5, NOW, 7, 1, 1),
-        close(7, NOW, 7, 1, 1),
-        close(8, NOW, 7, 1, 1),
+        accept(NOW, 7, 1, 1),
+        dispute(NOW, 7, 1, 1),
         sweep(NOW, 1_001),
         freeze(NOW, 3, 9, true),
         caps(NOW, 3, 7, MOST + 1, 0),
@@ -209,8 +209,7 @@ fn refusals_have_their_columns_and_move_no_credits() {
         (3, 20, 1),
         (4, 27, 1),
         (5, 27, 1),
-        (7, 32, 1),
-        (8, 32, 1),
+        (7, 32, 2),
         (9, 12, 1),
         (10, 16, 1),
         (11, 12, 1),
@@ -238,7 +237,11 @@ fn row_0_is_for_operation_bytes_that_are_no_operation() {
         // no mark, so that every byte is malformed
         record[0] ^= 1;
         let report = over(&[entry(&record, 0, 0).to_vec()]);
-        let row = if (1..=12).contains(&byte) { byte } else { 0 };
+        // 8 too since request 7/13
+        let row = match byte {
+            1..=7 | 9..=12 => byte,
+            _ => 0,
+        };
         assert_eq!(report.grid, grid(&[(usize::from(row), 3, 1)]), "{}", byte);
         assert_eq!(five(&report), [0; 5]);
     }
@@ -253,7 +256,7 @@ fn a_malformed_record_is_counted_by_its_operation_byte() {
         let report = over(&[entry(&record, 3, 0).to_vec()]);
         assert_eq!(report.grid, grid(&[(2, 3, 1)]));
     }
-    for byte in [0, 13, 14, 128, 255] {
+    for byte in [0, 8, 13, 14, 128, 255] {
         let mut record = bytes(&transfer(NOW, 7, 1, 8, 5));
         record[2] = byte;
         let report = over(&[entry(&record, 3, 0).to_vec()]);
@@ -392,14 +395,14 @@ fn a_release_that_is_impossible_is_not_counted() {
         open(NOW, 7, 1, 8, 30, DEADLINE),
         claim(NOW, 8, 1, 7, WINDOW, 1),
         claim(NOW, 8, 2, 7, WINDOW, 1),
-        close(7, NOW, 7, 2, 1),
-        close(7, NOW, 7, 3, 2),
+        accept(NOW, 7, 2, 1),
+        accept(NOW, 7, 3, 2),
     ];
     settled(&entries);
     assert_eq!(five(&over(&[recording(&entries)])), [50_000, 0, 30, 0, 0]);
     // an accept when the escrow is refunded
     entries.truncate(3);
-    entries.extend([close(5, NOW, 7, 2, 1), close(7, NOW, 7, 3, 1)]);
+    entries.extend([close(5, NOW, 7, 2, 1), accept(NOW, 7, 3, 1)]);
     settled(&entries);
     assert_eq!(five(&over(&[recording(&entries)])), [50_000, 0, 0, 30, 0]);
     // a sweep's accept when the escrow is stale, which a second sweep then ends; the accept of
@@ -414,7 +417,7 @@ fn a_release_that_is_impossible_is_not_counted() {
         grant(NOW, 1, 7, 50_000),
         grant(NOW, 2, 8, 1),
         claim(NOW, 8, 1, 7, WINDOW, 0),
-        close(7, NOW, 7, 2, 1),
+        accept(NOW, 7, 2, 1),
     ];
     settled(&entries);
     assert_eq!(five(&over(&[recording(&entries)])), [50_001, 0, 0, 0, 0]);
@@ -808,7 +811,7 @@ fn random_recordings_add_up() {
                 3 | 4 => open(now, signer, nonce, target, 1 + dice.below(99), until),
                 5 => claim(now, signer, nonce, target, until, dice.below(4)),
                 6 => auto(claim(now, signer, nonce, target, until, dice.below(4))),
-                7 => close(pick(&mut dice), now, signer, nonce, 1 + dice.below(4)),
+                7 => end(&mut dice, now, signer, nonce),
                 8 => close_wallet(now, nonce, target),
                 _ => sweep(now, dice.below(4)),
             };
@@ -817,7 +820,10 @@ fn random_recordings_add_up() {
                 record[2] = dice.below(20) as u8;
             }
             let (number, _) = submit(&mut world.tables(), &record);
-            let row = if record[2] <= 12 { record[2] } else { 0 };
+            let row = match record[2] {
+                operation @ (1..=7 | 9..=12) => operation,
+                _ => 0,
+            };
             grid[usize::from(row)][number as usize] += 1;
             entries.extend(entry(&record, dice.word() as u8, dice.word()));
             read += 1;
@@ -841,10 +847,17 @@ fn random_recordings_add_up() {
     }
     assert!(figures.iter().all(|&figure| figure > 0), "{:?}", figures);
     assert!(grid[12][0] > 0 && grid[12][42] > 0);
+    assert!(grid[7][0] > 0 && grid[0][3] > 0);
     assert!(grid.iter().any(|row| row[43] > 0));
 }
 
 /// Release, refund, accept or dispute.
-fn pick(dice: &mut Dice) -> u8 {
-    dice.pick(&[4, 5, 7, 8]) as u8
+fn end(dice: &mut Dice, now: u64, signer: u64, nonce: u64) -> Submission {
+    let number = 1 + dice.below(4);
+    match dice.below(4) {
+        0 => close(4, now, signer, nonce, number),
+        1 => close(5, now, signer, nonce, number),
+        2 => accept(now, signer, nonce, number),
+        _ => dispute(now, signer, nonce, number),
+    }
 }

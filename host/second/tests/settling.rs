@@ -75,7 +75,7 @@ fn caps_set_both() {
 fn a_dispute_moves_no_credits() {
     let mut w = world();
     w.settles(claim(NOW, 8, 1, 7, DEADLINE, 1));
-    assert_eq!(w.settles(close(8, NOW + 1, 7, 2, 1)), 0);
+    assert_eq!(w.settles(dispute(NOW + 1, 7, 2, 1)), 0);
     assert_eq!(w.receipt(1)[5..10], [3, NOW, NOW + 1, 7, 0]);
     assert_eq!(w.has(7), (49_000, 1_000));
     assert_eq!(w.escrow(1)[4], 1);
@@ -86,14 +86,14 @@ fn an_accept_without_link_or_when_the_escrow_is_stale() {
     let mut w = world();
     w.settles(claim(NOW, 8, 1, 7, DEADLINE, 0));
     w.settles(claim(NOW, 8, 2, 7, DEADLINE, 1));
-    assert_eq!(w.settles(close(7, NOW, 7, 2, 1)), 0);
+    assert_eq!(w.settles(accept(NOW, 7, 2, 1)), 0);
     assert_eq!(w.receipt(1)[5..10], [2, NOW, NOW, 7, 0]);
     // Until request 5/13 a pending receipt could be accepted after its deadline.
-    w.refuses(close(7, DEADLINE + 1, 7, 3, 2), 41);
+    w.refuses(accept(DEADLINE + 1, 7, 3, 2), 41);
     // A claim's window ends with its escrow's deadline or before (31). Only lent tables have a
     // receipt that can be accepted when its escrow is stale; no release then.
     w.receipts[14 + 3] = DEADLINE + 1;
-    assert_eq!(w.settles(close(7, DEADLINE + 1, 7, 3, 2)), 0);
+    assert_eq!(w.settles(accept(DEADLINE + 1, 7, 3, 2)), 0);
     assert_eq!(w.receipt(2)[5..10], [2, NOW, DEADLINE + 1, 7, 29]);
     assert_eq!(w.escrow(1)[4..], [1, NOW, 0, 0]);
     assert_eq!(w.has(7), (49_000, 1_000));

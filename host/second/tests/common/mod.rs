@@ -116,6 +116,20 @@ pub fn bytes(submission: &Submission) -> [u8; 108] {
     out
 }
 
+/// The bytes of these fields, malformed or not; no writer is asked.
+pub fn raw(s: &Submission) -> [u8; 108] {
+    let mut out = [0; 108];
+    out[..4].copy_from_slice(&[0xA7, 0x3C, s.op, s.flags]);
+    let words = [
+        s.now, s.signer, s.nonce, s.issued, s.expires, s.target, s.amount, s.until, s.link,
+    ];
+    let places = out[4..].chunks_exact_mut(8);
+    for (place, word) in places.zip(words.iter().chain(&s.hash)) {
+        place.copy_from_slice(&word.to_le_bytes());
+    }
+    out
+}
+
 /// A signed record, valid from now for one minute.
 pub fn signed(op: u8, now: u64, signer: u64, nonce: u64) -> Submission {
     Submission {
@@ -157,12 +171,53 @@ pub fn open(now: u64, from: u64, nonce: u64, target: u64, amount: u64, until: u6
     }
 }
 
-/// Operations 4, 5, 7 and 8 (8 with a reason).
+/// Operations 4 and 5.
 pub fn close(op: u8, now: u64, signer: u64, nonce: u64, target: u64) -> Submission {
     Submission {
         target,
-        flags: if op == 8 { SIGNED | REASON } else { SIGNED },
         ..signed(op, now, signer, nonce)
+    }
+}
+
+/// Operation 7, of request 7/13: "bit 2 for accept".
+pub fn accept(now: u64, signer: u64, nonce: u64, target: u64) -> Submission {
+    Submission {
+        flags: SIGNED | BIT2,
+        target,
+        ..signed(7, now, signer, nonce)
+    }
+}
+
+/// Operation 7, of request 7/13: "clear for dispute", with a reason.
+pub fn dispute(now: u64, signer: u64, nonce: u64, target: u64) -> Submission {
+    Submission {
+        flags: SIGNED | REASON,
+        target,
+        ..signed(7, now, signer, nonce)
+    }
+}
+
+/// From now, signer, nonce and target.
+pub type Reply = fn(u64, u64, u64, u64) -> Submission;
+
+pub const REPLIES: [Reply; 2] = [accept, dispute];
+
+/// The same in the form before request 7/13: "7 accept", "8 dispute", and bit 2 in neither.
+pub fn old(s: Submission) -> Submission {
+    match (s.op, s.flags & BIT2) {
+        (7, 0) => Submission { op: 8, ..s },
+        (7, _) => Submission {
+            flags: s.flags & !BIT2,
+            ..s
+        },
+        _ => s,
+    }
+}
+
+pub fn without_a_reason(s: Submission) -> Submission {
+    Submission {
+        flags: s.flags & !REASON,
+        ..s
     }
 }
 
