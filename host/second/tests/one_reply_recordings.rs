@@ -211,6 +211,19 @@ fn row_8_stays_and_does_not_rise() {
     assert_eq!(added, Added::Counted { entries, cut_short });
     assert_eq!(report.grid[8], [u64::MAX; 44]);
     assert_eq!(report.grid[0][3], 1);
+    // Nor do the rows after it move.
+    for (row, s) in [
+        (9, sweep(NOW, 5)),
+        (10, freeze(NOW, 2, 0, true)),
+        (11, caps(NOW, 3, 7, 5, 5)),
+        (12, close_wallet(NOW, 3, 8)),
+    ] {
+        let mut one = report.clone();
+        let number = World::usual().send(&s).0 as usize;
+        one.grid[row][number] += 1;
+        add_recording(&mut report, &mut world.tables(), &entry(&raw(&s), 0, 0));
+        assert_eq!(report, one);
+    }
 }
 
 #[test]
