@@ -16,6 +16,7 @@ use Rattle.rules.specs.Submit.{answerBy, submitReadBy, submitBy}
 use Rattle.rules.specs.Recording.{entryAt, entriesFrom}
 use Rattle.rules.specs.Replay.{through, compared, ended, replayOn, replay}
 use Rattle.rules.specs.Report.{endedAs, addsOf, tallied, passing, stopped, reported, reportOn, report}
+use Rattle.rules.specs.Convert.{oldOperation, convertedAt, converted}
 use Rattle.rules.specs.Trials.{Trial, Case, holds, failing}
 use Rattle.rules.specs.Cases.{cases}
 
@@ -27,8 +28,8 @@ Each [] = Unit {0}
 Each (c ∷ cs) = Goes (c .label) (c .trial) × Each cs
 
 each-goes : Each cases
-unfolding sum every some seek loop rowOf putHead putWallet putEscrow putReceipt newWallet newEscrow newReceipt newEntry lengthsRight fresh openTo usesOf wellFormedBy decode encode acceptedBy readBy heldIn credits sound seenIn seen countedOf counted entryRefusals envelopeRefusals operationRefusalsBy refusalsBy raise lower ensureWallet endEscrow closeReceipt acceptRow closeDueReceipt closeDueEscrow sweepReceipt sweepEscrow sweptReceipts swept grant transfer openEscrow release refund claim accept dispute reply sweep freeze caps close operateBy enter settleBy answerBy submitReadBy submitBy entryAt entriesFrom through compared ended replayOn replay endedAs addsOf tallied passing stopped reported reportOn report
-each-goes = (refl, (refl, (refl, (refl, (refl, (refl, (refl, (refl, (refl, (refl, (refl, (refl, (refl, (refl, (refl, (refl, (refl, (refl, (refl, (refl, (refl, (refl, (refl, (refl, (refl, (refl, (refl, (refl, (refl, (refl, (refl, (refl, (refl, (refl, (refl, (refl, (refl, (refl, (refl, (refl, (refl, (refl, (refl, (refl, (refl, (refl, (refl, (refl, (refl, (refl, (refl, (refl, (refl, (refl, (refl, (refl, (refl, (refl, (refl, (refl, (refl, (refl, (refl, (refl, tt))))))))))))))))))))))))))))))))))))))))))))))))))))))))))))))))
+unfolding sum every some seek loop rowOf putHead putWallet putEscrow putReceipt newWallet newEscrow newReceipt newEntry lengthsRight fresh openTo usesOf wellFormedBy decode encode acceptedBy readBy heldIn credits sound seenIn seen countedOf counted entryRefusals envelopeRefusals operationRefusalsBy refusalsBy raise lower ensureWallet endEscrow closeReceipt acceptRow closeDueReceipt closeDueEscrow sweepReceipt sweepEscrow sweptReceipts swept grant transfer openEscrow release refund claim accept dispute reply sweep freeze caps close operateBy enter settleBy answerBy submitReadBy submitBy entryAt entriesFrom through compared ended replayOn replay endedAs addsOf tallied passing stopped reported reportOn report oldOperation convertedAt converted
+each-goes = (refl, (refl, (refl, (refl, (refl, (refl, (refl, (refl, (refl, (refl, (refl, (refl, (refl, (refl, (refl, (refl, (refl, (refl, (refl, (refl, (refl, (refl, (refl, (refl, (refl, (refl, (refl, (refl, (refl, (refl, (refl, (refl, (refl, (refl, (refl, (refl, (refl, (refl, (refl, (refl, (refl, (refl, (refl, (refl, (refl, (refl, (refl, (refl, (refl, (refl, (refl, (refl, (refl, (refl, (refl, (refl, (refl, (refl, (refl, (refl, (refl, (refl, (refl, (refl, (refl, (refl, (refl, (refl, tt))))))))))))))))))))))))))))))))))))))))))))))))))))))))))))))))))))
 
 none-fails : (cs : List Case) → Each cs → failing cs ≡ []
 none-fails [] e = refl

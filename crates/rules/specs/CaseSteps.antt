@@ -2,8 +2,8 @@
 use mathlib.Core.List.{List, [], _∷_, _++_}
 use Prim.Native.Nat.{ℕ, _+_}
 use lib.ListN.{set, replicate}
-use Rattle.rules.specs.Limits.{GRANT, TRANSFER, OPEN, RELEASE, REFUND, CLAIM, REPLY, SWEEP, FREEZE, CAPS, CLOSE, ALL-AGREE, FIGURES}
-use Rattle.rules.specs.Limits.{DEFAULT-TX-CAP-MICRO, DEFAULT-DAILY-CAP-MICRO}
+use Rattle.rules.specs.Limits.{GRANT, TRANSFER, OPEN, RELEASE, REFUND, CLAIM, REPLY, OLD-DISPUTE, SWEEP, FREEZE, CAPS, CLOSE, OPERATION-AT, ALL-AGREE, FIGURES}
+use Rattle.rules.specs.Limits.{DEFAULT-TX-CAP-MICRO, DEFAULT-DAILY-CAP-MICRO, RELEASED, ACCEPTED, DISPUTED}
 use Rattle.rules.specs.Ledger.{Ledger, ledger}
 use Rattle.rules.specs.Record.{encode}
 use Rattle.rules.specs.Recording.{Entry, asEntry}
@@ -203,3 +203,32 @@ shut-tables =
     (tables .escrows) (tables .receipts)
     ((1 ∷ 1 ∷ GRANT ∷ 7 ∷ 50_000_000 ∷ 1_000 ∷ 0 ∷ 0 ∷ 7 ∷ 5 ∷ TRANSFER ∷ 8 ∷ 50_000_000 ∷ 1_000 ∷ 0 ∷ 0 ∷ 1 ∷ 2 ∷ CLOSE ∷ 7 ∷ 0 ∷ 1_000 ∷ 0 ∷ 0 ∷ [])
     ++ replicate 40 ODD-WORD)
+
+-- ---- Request 7: one reply to a claim
+
+-- 7 replies to a receipt at 2,000, with these flags; and an operation 8 of the same words
+abbrev pub replies-with : ℕ → ℕ → ℕ → Submission
+replies-with flags nonce number = sub REPLY flags 2_000 7 nonce 2_000 3_000 number 0 0 0
+
+abbrev pub eighth-with : ℕ → ℕ → ℕ → Submission
+eighth-with flags nonce number = sub OLD-DISPUTE flags 2_000 7 nonce 2_000 3_000 number 0 0 0
+
+-- the tables after P1, P2, two claims on escrow 1, the accept of the first and the dispute of the second: the journal has operation 7 for both
+abbrev pub replied-tables : Ledger
+replied-tables =
+    ledger (1 ∷ 0 ∷ 2_000 ∷ 50_000_000 ∷ 2 ∷ 1 ∷ 2 ∷ 6 ∷ [])
+    ((7 ∷ 30_000_000 ∷ 0 ∷ 0 ∷ DEFAULT-TX-CAP-MICRO ∷ DEFAULT-DAILY-CAP-MICRO ∷ 8 ∷ 20_000_000 ∷ 0 ∷ 0 ∷ DEFAULT-TX-CAP-MICRO ∷ DEFAULT-DAILY-CAP-MICRO ∷ [])
+    ++ replicate 12 ODD-WORD)
+    ((7 ∷ 8 ∷ 20_000_000 ∷ 501_000 ∷ RELEASED ∷ 1_000 ∷ 2_000 ∷ 7 ∷ []) ++ replicate 24 ODD-WORD)
+    ((8 ∷ 7 ∷ 1 ∷ 400_000 ∷ 0 ∷ ACCEPTED ∷ 1_000 ∷ 2_000 ∷ 7 ∷ 0 ∷ 0 ∷ 0 ∷ 0 ∷ 0 ∷ [])
+    ++ ((8 ∷ 7 ∷ 1 ∷ 400_000 ∷ 0 ∷ DISPUTED ∷ 1_000 ∷ 2_000 ∷ 7 ∷ 0 ∷ 0 ∷ 0 ∷ 0 ∷ 0 ∷ []) ++ replicate 28 ODD-WORD))
+    ((1 ∷ 1 ∷ GRANT ∷ 7 ∷ 50_000_000 ∷ 1_000 ∷ 0 ∷ 0 ∷ 7 ∷ 1 ∷ OPEN ∷ 8 ∷ 20_000_000 ∷ 1_000 ∷ 1 ∷ 0 ∷ [])
+    ++ ((8 ∷ 1 ∷ CLAIM ∷ 7 ∷ 0 ∷ 1_000 ∷ 1 ∷ 1 ∷ 8 ∷ 2 ∷ CLAIM ∷ 7 ∷ 0 ∷ 1_000 ∷ 2 ∷ 1 ∷ [])
+    ++ ((7 ∷ 2 ∷ 7 ∷ 1 ∷ 0 ∷ 2_000 ∷ 1 ∷ 0 ∷ 7 ∷ 3 ∷ 7 ∷ 2 ∷ 0 ∷ 2_000 ∷ 0 ∷ 0 ∷ []) ++ replicate 16 ODD-WORD)))
+
+-- an entry of a recording, and with operation 0
+abbrev pub answered : Submission → ℕ → ℕ → Entry
+answered s number word = asEntry (encode s) number word
+
+abbrev pub struck : Entry → Entry
+struck e = asEntry (set (e .bytes) OPERATION-AT 0) (e .number) (e .word)

@@ -8,11 +8,12 @@ use Rattle.rules.specs.Ledger.{setJournal, fresh}
 use Rattle.rules.specs.Recording.{entryBytes}
 use Rattle.rules.specs.Replay.{answer, verdict}
 use Rattle.rules.specs.Report.{reportOf, blank-report}
-use Rattle.rules.specs.Trials.{replays, reports, Case, ODD-WORD, tables, sub, case, step, leaves, has, entry, entry-as, recorded, added, added-leaving, counted, reported-from}
+use Rattle.rules.specs.Trials.{replays, reports, Case, ODD-WORD, tables, sub, case, step, leaves, has, entry, entry-as, recorded, added, added-leaving, counted, reported-from, converts-to}
 use Rattle.rules.specs.CaseSteps.{P1, opening, P2, P3, releases, P4, transfers, enveloped, opens, claims, accepts, sweeps, all-agree, capped, grants-8, holds-by, DAY-ENDS-MS, DAY-OVER-MS, transfers-1, opens-1}
 use Rattle.rules.specs.CaseSteps.{sent, unmarked, bare, refunds-2000, releases-2000, sweeps-at, claims-auto, brought, NONE-YET, NOTHING-NAMED, pays-1, again, grants-1}
 use Rattle.rules.specs.CaseSteps.{WINDOW-ENDS-MS, WINDOW-OVER-MS, TWO-DAYS-LATE-MS, accepts-at, disputes-at, disputes-bare}
 use Rattle.rules.specs.CaseSteps.{closes-at, closes, closes-with, emptied, shut-7, pays-by, claims-by, freezes, shut-tables}
+use Rattle.rules.specs.CaseSteps.{replies-with, eighth-with, replied-tables, answered, struck}
 
 -- THE TABLE
 abbrev pub cases : List Case
@@ -262,4 +263,32 @@ cases =
     ∷ entry (pays-1 9 43) ∷ []) 0 8 shut-tables ∷ [])
     (counted 1 0 1 ∷ counted 2 0 1 ∷ counted 12 42 1 ∷ counted 12 0 1 ∷ counted 12 43 1 ∷ counted 12 3 1 ∷ counted 1 43 1 ∷ counted 2 43 1 ∷ [])
     (50_000_000 ∷ 50_000_000 ∷ 0 ∷ 0 ∷ 0 ∷ []) NOTHING-NAMED
+    -- bits 2 and 3 together, bit 1, and operation 8 with and without a reason are malformed; a dispute needs a reason, and an accept does not
+    ∷ case 701
+    (P1 ∷ P2 ∷ step (claims 1) 0 1 ∷ step (claims 2) 0 2 ∷ step (replies-with 0b1101 2 1) 3 0 ∷ step (replies-with 0b0011 2 1) 3 0
+    ∷ step (eighth-with 0b1001 2 1) 3 0 ∷ step (eighth-with 0b0001 2 1) 3 0 ∷ step (replies-with 0b0001 2 1) 35 0
+    ∷ leaves (replies-with 0b0101 2 1) 0 1 (has 7 30_000_000 0 ∷ has 8 20_000_000 0 ∷ [])
+    ∷ leaves (replies-with 0b1001 3 2) 0 0 (has 7 30_000_000 0 ∷ has 8 20_000_000 0 ∷ []) ∷ [])
+    -- both replies in the report's row 7, a malformed one too, and operation 8 in row 0; the tables left
+    ∷ reported-from 702 blank-report
+    (added-leaving
+    (entry P1 ∷ entry P2 ∷ sent (claims 1) ∷ sent (claims 2) ∷ sent (replies-with 0b0101 2 1) ∷ sent (replies-with 0b1001 3 2) ∷ sent (replies-with 0b1101 4 2)
+    ∷ sent (eighth-with 0b1001 4 2) ∷ []) 0 8 replied-tables ∷ [])
+    (counted 1 0 1 ∷ counted 3 0 1 ∷ counted 6 0 2 ∷ counted 7 0 2 ∷ counted 7 3 1 ∷ counted 0 3 1 ∷ []) (50_000_000 ∷ 0 ∷ 20_000_000 ∷ 0 ∷ 0 ∷ []) NOTHING-NAMED
+    -- an old recording that agrees: an accept gets bit 2; disputes become operation 7, one of them without a reason; what was malformed, 7 with bit 2 and 8
+    -- with bit 2 too, gets operation 0; a close stays, and so do the answers and the piece of an entry behind them
+    ∷ converts-to 703
+    (entry P1 ∷ entry P2 ∷ answered (claims 1) 0 1 ∷ answered (claims 2) 0 2 ∷ answered (replies-with 0b0101 2 1) 3 0 ∷ answered (eighth-with 0b1101 2 1) 3 0
+    ∷ answered (replies-with 0b0001 2 1) 0 1 ∷ answered (eighth-with 0b0001 3 2) 35 0 ∷ answered (eighth-with 0b1001 3 2) 0 0 ∷ unmarked (replies-with 0b0001 4 1)
+    ∷ answered (closes-at 2_000 2 7) 42 0 ∷ [])
+    (take 108 (entryBytes (answered (eighth-with 0b1001 5 2) 34 0)))
+    (entry P1 ∷ entry P2 ∷ answered (claims 1) 0 1 ∷ answered (claims 2) 0 2 ∷ struck (answered (replies-with 0b0101 2 1) 3 0)
+    ∷ struck (answered (eighth-with 0b1101 2 1) 3 0)
+    ∷ answered (replies-with 0b0101 2 1) 0 1 ∷ answered (replies-with 0b0001 3 2) 35 0 ∷ answered (replies-with 0b1001 3 2) 0 0
+    ∷ struck (unmarked (replies-with 0b0001 4 1)) ∷ answered (closes-at 2_000 2 7) 42 0 ∷ [])
+    (verdict 0 CUT-SHORT 11 (answer 0 0) (answer 0 0))
+    -- and one that does not: at the same entry, with the same two answers
+    ∷ converts-to 704 (entry P1 ∷ entry P2 ∷ answered (claims 1) 0 1 ∷ answered (eighth-with 0b1001 2 1) 0 1 ∷ []) []
+    (entry P1 ∷ entry P2 ∷ answered (claims 1) 0 1 ∷ answered (replies-with 0b1001 2 1) 0 1 ∷ [])
+    (verdict 0 DISAGREES 4 (answer 0 1) (answer 0 0))
     ∷ []

@@ -1,7 +1,8 @@
 -- Section "Checked cases": what a case is, and when it holds. A case is a list of submissions on a fresh ledger: each is written as a record,
 -- submitted, and held against the answer and the word that the paper gives, what wallets then have, and the release codes that receipts then have.
 -- Or it is a recording, whose replay is held against a verdict and what wallets then have. Or it is recordings, added one after the other to a
--- report, which is held against cells, figures and what is named.
+-- report, which is held against cells, figures and what is named. Or it is an old recording, which is held against what it is converted to, and whose
+-- replay by the old form and, converted, by today's against one verdict.
 use mathlib.Core.List.{List, [], _∷_, _++_}
 use mathlib.Core.Bool.{Bool, true, false, cond, _&&_}
 use Prim.Native.Nat.{ℕ, _+_, _-_}
@@ -10,10 +11,12 @@ use lib.Dec.{eqb}
 use Rattle.rules.specs.Limits.{BALANCE, LOCKED, RELEASE-CODE}
 use Rattle.rules.specs.Ledger.{Ledger, ledger, fresh, walletOf, receipt}
 use Rattle.rules.specs.Record.{encode}
-use Rattle.rules.specs.Submit.{submit}
+use Rattle.rules.specs.Submit.{submitBy, submit}
 use Rattle.rules.specs.Recording.{Entry, asEntry, recordingOf}
 use Rattle.rules.specs.Replay.{replay, verdictOf}
 use Rattle.rules.specs.Report.{Grid, cell, Report, report}
+use Rattle.rules.specs.Convert.{converted}
+use Rattle.rules.specs.declared.Form.the-variants.{Old}
 use Rattle.rules.specs.declared.Answer.{Answer}
 use Rattle.rules.specs.declared.Submission.{Submission}
 use Rattle.rules.specs.declared.Verdict.{Verdict}
@@ -72,10 +75,18 @@ pub record Reporting : Type 0 where
   pub figures : List ℕ
   pub named : List ℕ
 
+-- an old recording, its entries and the bytes behind them; what the entries are converted to, the bytes behind them staying; and what its replay says
+pub record Converting : Type 0 where
+  pub entries : List Entry
+  pub rest : List ℕ
+  pub becomes : List Entry
+  pub verdict : Verdict
+
 pub data Trial : Type 0 where
   settles : List Step → Trial
   replays : Recorded → Trial
   reports : Reporting → Trial
+  converts : Converting → Trial
 
 -- the paper's P1 to P12 by their numbers; case k of request n/13 is n * 100 + k
 pub record Case : Type 0 where
@@ -158,6 +169,11 @@ holds (replays r) =
     let g = replay submit (r .on) (recordingOf (r .entries) ++ r .rest) in
     sameVerdict (verdictOf (g .found)) (r .verdict) && hasAll (g .left) (r .has)
 holds (reports m) = adds-up (m .before) (m .on) (m .adds) m
+holds (converts c) =
+    let old = recordingOf (c .entries) ++ c .rest in
+    let new = recordingOf (c .becomes) ++ c .rest in
+    sameWords (converted old) new
+    && (sameVerdict (verdictOf (replay (submitBy Old) tables old .found)) (c .verdict) && sameVerdict (verdictOf (replay submit tables new .found)) (c .verdict))
 
 -- the labels of the cases that do not hold
 abbrev pub failing : List Case → List ℕ
@@ -229,3 +245,7 @@ reported-from label before adds cells figures named = record {
   label = label;
   trial = reports (record { before = before; on = tables; adds = adds; cells = cells; figures = figures; named = named });
 }
+
+-- an old recording, converted
+abbrev pub converts-to : ℕ → List Entry → List ℕ → List Entry → Verdict → Case
+converts-to label entries rest becomes v = record { label = label; trial = converts (record { entries = entries; rest = rest; becomes = becomes; verdict = v }) }
