@@ -9,6 +9,8 @@ use Rattle.rules.specs.declared.Read.{Read}
 use Rattle.rules.proofs.Sole.{one}
 use Rattle.record.proofs.read_record.Kinds as read-kinds
 use Rattle.record.proofs.read_record.Reads as read-reads
+use Rattle.record.proofs.read_by.Kinds as read-by-kinds
+use Rattle.record.proofs.read_by.Reads as read-by-reads
 use Rattle.record.proofs.write_record.Kinds as write-kinds
 use Rattle.record.proofs.write_record.Reads as write-reads
 use Rattle.record.proofs.trips.write_read.Kinds as write-read-kinds
@@ -19,6 +21,9 @@ use Rattle.record.proofs.trips.read_write.Reads as read-write-reads
 -- a reader's answer, and the bytes lent to it
 pub sole-read : Sole read-kinds.ps read-kinds.r read-reads.Learnt (Read × List ℕ) (λ κs x e. (x, now (e .0)))
 sole-read κs a x y v w p q = ap (λ (r : Read). (r, now (a .0))) (one p q)
+
+pub sole-read-by : Sole read-by-kinds.ps read-by-kinds.r read-by-reads.Learnt (Read × List ℕ) (λ κs x e. (x, now (e .1 .0)))
+sole-read-by κs a x y v w p q = ap (λ (r : Read). (r, now (a .1 .0))) (one p q)
 
 -- a writer's answer, and the output
 abbrev written : ℕ → List ℕ → Written
