@@ -10,14 +10,14 @@ use native.Mathlib.Decide.{ℕ-discrete, decLt}
 use native.Mathlib.Omega.{arith}
 use lib.ListN.{getD, set, length, take, drop, length-set}
 use lib.Seq.{getD-take, getD-drop, getD-set-same, getD-set-other}
-use lib.Dec.{eqb, leb, lit<}
+use lib.Dec.{leb, lit<}
 use borrow.Author.Tests.{eqb-true, ne-eqb, leb-true, le-leb}
 use Rattle.rules.specs.Limits.{RECORD-BYTES, OPERATION-AT, FLAGS-AT, REPLY, OLD-ACCEPT, OLD-DISPUTE, SIGNATURE-HELD, ADMIN, ACCEPTS}
 use Rattle.rules.specs.Ledger.{Ledger}
 use Rattle.rules.specs.Record.{bit, noUses, usesTable, usesOf, bitsUsed, bitsApart, formTests, wellFormedBy, leAt, decode, nothing, acceptTests, acceptedBy, readBy}
 use Rattle.rules.specs.Refusals.{envelopeRefusals, operationRefusalsBy}
 use Rattle.rules.specs.Settle.{Done, accept, dispute, reply, idle, operationsBy, operateBy}
-use Rattle.rules.specs.Convert.{oldOperation, operationByte, flagsByte, convertRecord}
+use Rattle.rules.specs.Convert.{oldOperation, newOperation, newFlags, operationByte, flagsByte, convertRecord}
 use Rattle.rules.specs.declared.Form.{Form}
 use Rattle.rules.specs.declared.Form.the-variants.{Old, Today}
 use Rattle.rules.specs.declared.Read.{Read}
@@ -102,15 +102,9 @@ module _ (M : Ledger) where
 
 -- ---- a submission that is well-formed in the old form
 
--- its operation and its flags in today's
-abbrev op-of : ℕ → ℕ
-op-of op = cond (eqb op OLD-DISPUTE) REPLY op
-
-abbrev flags-of : ℕ → ℕ → ℕ
-flags-of op flags = cond (eqb op OLD-ACCEPT) (accepting flags) flags
-
+-- in today's
 abbrev today : Submission → Submission
-today s = reformed (op-of (s .op)) (flags-of (s .op) (s .flags)) s
+today s = reformed (newOperation (s .op)) (newFlags (s .op) (s .flags)) s
 
 -- it is converted, and well-formed in today's
 record Formed-today (s t : Submission) : Type 0 where
@@ -225,12 +219,12 @@ mark-kept b k h =
     ∙ getD-set-other b OPERATION-AT k (operationByte b) 0 (omega arith)
 
 -- the converted record, by what the old form reads as the operation
-converted-by : (b : List ℕ) (o : ℕ) → oldOperation b ≡ o → convertRecord b ≡ set (set b OPERATION-AT (op-of o)) FLAGS-AT (flags-of o (getD b FLAGS-AT 0))
+converted-by : (b : List ℕ) (o : ℕ) → oldOperation b ≡ o → convertRecord b ≡ set (set b OPERATION-AT (newOperation o)) FLAGS-AT (newFlags o (getD b FLAGS-AT 0))
 unfolding convertRecord
-converted-by b o e = ap (λ (k : ℕ). set (set b OPERATION-AT (op-of k)) FLAGS-AT (flags-of k (getD b FLAGS-AT 0))) e
+converted-by b o e = ap (λ (k : ℕ). set (set b OPERATION-AT (newOperation k)) FLAGS-AT (newFlags k (getD b FLAGS-AT 0))) e
 
 decoded-by : (b : List ℕ) (r : Read) → readBy Old b ≡ r → length b ≡ RECORD-BYTES
-    → decode (convertRecord b) ≡ reformed (op-of (r .submission .op)) (flags-of (r .submission .op) (getD b FLAGS-AT 0)) (decode b)
+    → decode (convertRecord b) ≡ reformed (newOperation (r .submission .op)) (newFlags (r .submission .op) (getD b FLAGS-AT 0)) (decode b)
 unfolding oldOperation
 decoded-by b r e l = ap decode (converted-by b (r .submission .op) (ap (λ (q : Read). q .submission .op) e)) ∙ decode-set b _ _ l
 

@@ -1,5 +1,5 @@
 -- A reply is the dispute or the accept that its bit 2 says.
-use mathlib.Core.Path.{_≡_, _∙_}
+use mathlib.Core.Path.{_≡_}
 use Prim.Native.Nat.{_/_, _%_}
 use borrow.Author.Tests.{eq-eqb, ne-eqb}
 use Rattle.rules.specs.Ledger.{Ledger}

@@ -2,7 +2,7 @@
 -- line of a report is of row 8, so the month's law of cells leaves that row.
 use mathlib.Core.Path.{_≡_, refl, sym, ap, _∙_}
 use mathlib.Core.List.{List, [], _∷_, _++_}
-use mathlib.Core.Bool.{Bool, true, false, not, cond, _&&_, _||_, or-false, true≢false}
+use mathlib.Core.Bool.{Bool, true, false, not, _&&_, or-false}
 use Prim.Native.Nat.{ℕ, zero, suc, _+_}
 use native.Mathlib.Omega.{arith}
 use lib.ListN.{take}

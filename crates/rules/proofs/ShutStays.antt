@@ -20,7 +20,7 @@ use Rattle.rules.specs.Ledger.{putHead, putWallet, putEscrow, putReceipt
 use Rattle.rules.specs.Wallets.{isClosed}
 use Rattle.rules.specs.Record.{bit}
 use Rattle.rules.specs.Refusals.{releasable, oneOf, paying, closing, replying, signs, targets}
-use Rattle.rules.specs.Settle.{raise, lower, ensureWallet, endEscrow, closeReceipt, Done, acceptRow, Sweep, sweepStart, dueReceipt, dueEscrow, reply}
+use Rattle.rules.specs.Settle.{raise, lower, ensureWallet, endEscrow, closeReceipt, Done, acceptRow, Sweep, sweepStart, dueReceipt, dueEscrow}
 use Rattle.rules.specs.Settle.{closeDueReceipt, closeDueEscrow, sweepReceipt, sweepEscrow, sweptReceipts, swept, operations, idle, operateBy, operate, enter, settleBy, settle}
 use Rattle.rules.specs.Settle.{grant, transfer, openEscrow, release, refund, claim, accept, dispute, sweep, freeze, caps, close}
 use Rattle.rules.specs.Submit.{answerOf}

@@ -5,9 +5,6 @@ use Rattle.convert.proofs.Turned.{Turned, turned-none, turned-more, tur
 use borrow.Author.Needs.{needs}
 use Rattle.convert.proofs.convert.Statement.{statement}
 use Rattle.convert.proofs.convert.Tie as tie
-use Rattle.convert.proofs.convert.Reads as reads
-use Rattle.convert.proofs.convert.Lts as lts
-use Rattle.convert.proofs.convert_at.Reads as convert-at-reads
 
 abbrev Inv-loop : tie.InvT-loop
 Inv-loop recording₀ entries entry₀ recording entry = Turned recording₀ entry recording

@@ -5,11 +5,6 @@ use Rattle.convert.proofs.Turned.{stored}
 use borrow.Author.Needs.{needs}
 use Rattle.convert.proofs.convert_at.Statement.{statement}
 use Rattle.convert.proofs.convert_at.Tie as tie
-use Rattle.convert.proofs.convert_at.Reads as reads
-use Rattle.convert.proofs.convert_at.Lts as lts
-use Rattle.convert.proofs.new_flags.Reads as new-flags-reads
-use Rattle.convert.proofs.new_operation.Reads as new-operation-reads
-use Rattle.record.proofs.read_by.Reads as read-by-reads
 
 add-end : tie.Need-add-end
 add-end c = search needs

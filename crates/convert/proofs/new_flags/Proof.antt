@@ -3,8 +3,6 @@ use Rattle.convert.proofs.Turned.{flags-of-accept, flags-of-other}
 use borrow.Author.Needs.{needs}
 use Rattle.convert.proofs.new_flags.Statement.{statement}
 use Rattle.convert.proofs.new_flags.Tie as tie
-use Rattle.convert.proofs.new_flags.Reads as reads
-use Rattle.convert.proofs.new_flags.Lts as lts
 
 add-result : tie.Need-add-result
 add-result c = search needs

@@ -2,8 +2,6 @@
 use Rattle.convert.proofs.Turned.{of-dispute, of-other}
 use Rattle.convert.proofs.new_operation.Statement.{statement}
 use Rattle.convert.proofs.new_operation.Tie as tie
-use Rattle.convert.proofs.new_operation.Reads as reads
-use Rattle.convert.proofs.new_operation.Lts as lts
 
 returns : tie.Need-returns
 returns c = of-dispute _ (c .if1 .taken)

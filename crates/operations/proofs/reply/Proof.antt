@@ -5,10 +5,6 @@ use Rattle.operations.proofs.Replies.{disputed, accepted}
 use borrow.Author.Needs.{needs}
 use Rattle.operations.proofs.reply.Statement.{statement}
 use Rattle.operations.proofs.reply.Tie as tie
-use Rattle.operations.proofs.reply.Reads as reads
-use Rattle.operations.proofs.reply.Lts as lts
-use Rattle.operations.proofs.accept.Reads as accept-reads
-use Rattle.operations.proofs.dispute.Reads as dispute-reads
 
 dispute-requires : tie.Need-dispute-requires
 dispute-requires c κs = search needs

@@ -3,9 +3,6 @@ use Rattle.record.proofs.Uses.{formed}
 use borrow.Author.Needs.{needs}
 use Rattle.record.proofs.form.well_formed.Statement.{statement}
 use Rattle.record.proofs.form.well_formed.Tie as tie
-use Rattle.record.proofs.form.well_formed.Reads as reads
-use Rattle.record.proofs.form.well_formed.Lts as lts
-use Rattle.record.proofs.form.is_today.Reads as is-today-reads
 
 is-today-requires : tie.Need-is-today-requires
 is-today-requires c κs = search needs
