@@ -12,7 +12,7 @@ use Rattle.rules.specs.Submit.{submit}
 use Rattle.rules.specs.Recording.{Entry, entriesOf, recordsOf, cutShort}
 use Rattle.rules.specs.Replay.{Next, on, stop, stop-before, Gone, further, through, answer, compared, ended, replayOn, replay, ledgerAfter}
 use Rattle.rules.specs.Convert.{convertRecord, convertEntry, converted}
-use Rattle.rules.specs.Converted.{old-rule, Differ-in-replies, Same-answer, answersFrom, Converted-replays}
+use Rattle.rules.specs.Converted.{old-rule, Differ-in-replies, Answers-alike, answersFrom, Converted-replays}
 use Rattle.rules.specs.Promises.{started}
 use Rattle.rules.specs.declared.Answer.{Answer}
 use Rattle.rules.specs.declared.Found.{Found}
@@ -51,7 +51,7 @@ further-alike f g rest K L M N before after (stop b) = record { found = refl; le
 further-alike f g rest K L M N before after (stop-before b) = record { found = refl; left = before }
 
 -- the same is said of an entry and of the converted one, if they are answered the same
-said-alike : (n : ℕ) (K L : Ledger) (e : Entry) (o p : Outcome) → Same-answer o p → compared n K e o ≡ compared n L (convertEntry e) p
+said-alike : (n : ℕ) (K L : Ledger) (e : Entry) (o p : Outcome) → Answers-alike o p → compared n K e o ≡ compared n L (convertEntry e) p
 unfolding compared
 said-alike n K L e o p s = rw (s .number, s .word)
 

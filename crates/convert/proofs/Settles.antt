@@ -15,7 +15,7 @@ use Rattle.rules.specs.Refusals.{first, entryRefusals, refusalsBy}
 use Rattle.rules.specs.Settle.{Done, done, operateBy, entryOf, enter, settleBy}
 use Rattle.rules.specs.Submit.{answerBy, finish, submitReadBy, submitBy, submit}
 use Rattle.rules.specs.Convert.{convertRecord}
-use Rattle.rules.specs.Converted.{old-rule, Differ-in-replies, Same-answer, Converted-settles}
+use Rattle.rules.specs.Converted.{old-rule, Differ-in-replies, Answers-alike, Converted-settles}
 use Rattle.rules.specs.declared.Form.the-variants.{Old, Today}
 use Rattle.rules.specs.declared.Read.{Read}
 use Rattle.rules.specs.declared.Submission.{Submission}
@@ -104,11 +104,11 @@ module _ (K : Ledger) (j : List ℕ) (a : Alike (K .journal) j) where
       three = unfold entryRefusals in rw (x .number)
 
   -- settled both, or both refused with the ledgers as they were
-  finished-alike : (n : ℕ) (d e : Done) → Same-done d e → Same-answer (finish n d K) (finish n e (setJournal j K))
+  finished-alike : (n : ℕ) (d e : Done) → Same-done d e → Answers-alike (finish n d K) (finish n e (setJournal j K))
   finished-alike zero d e x = record { number = refl; word = x .word; left = x .after }
   finished-alike (suc n) d e x = record { number = refl; word = refl; left = differ-with K j a }
 
-  submitted-alike : (b : List ℕ) → Same-answer (old-rule K b) (submit (setJournal j K) (convertRecord b))
+  submitted-alike : (b : List ℕ) → Answers-alike (old-rule K b) (submit (setJournal j K) (convertRecord b))
   unfolding submitBy submitReadBy
   submitted-alike b =
       let x = read-converted b in
@@ -117,5 +117,5 @@ module _ (K : Ledger) (j : List ℕ) (a : Alike (K .journal) j) where
 
 pub converted-settles : Converted-settles
 converted-settles K L d b =
-    subst (λ (M : Ledger). Same-answer (old-rule K b) (submit M (convertRecord b))) (is-with K L d)
+    subst (λ (M : Ledger). Answers-alike (old-rule K b) (submit M (convertRecord b))) (is-with K L d)
     (submitted-alike K (L .journal) (record { lengths = d .lengths; words = d .words }) b)

@@ -42,13 +42,13 @@ pub record Differ-in-replies (K L : Ledger) : Type 0 where
       ⊎ ((p % JOURNAL-LEN ≡ OPERATION) × (getD (K .journal) p 0 ≡ OLD-DISPUTE) × (getD (L .journal) p 0 ≡ REPLY))
 
 -- one submission on two such ledgers, to the old form and, converted, to today's: the same answer and word, and two such ledgers again
-pub record Same-answer (o p : Outcome) : Type 0 where
+pub record Answers-alike (o p : Outcome) : Type 0 where
   pub number : o .number ≡ p .number
   pub word : o .word ≡ p .word
   pub left : Differ-in-replies (o .left) (p .left)
 
 abbrev pub Converted-settles : Type 0
-Converted-settles = (K L : Ledger) → Differ-in-replies K L → (b : List ℕ) → Same-answer (old-rule K b) (submit L (convertRecord b))
+Converted-settles = (K L : Ledger) → Differ-in-replies K L → (b : List ℕ) → Answers-alike (old-rule K b) (submit L (convertRecord b))
 
 -- the answers to records that are submitted one after the other
 abbrev pub answersFrom : Rule → Ledger → List (List ℕ) → List Answer
