@@ -1,5 +1,7 @@
 //! Submissions about receipts: a provider claims work done, and the requester replies.
 
+use std::fmt;
+
 use crate::envelope::Envelope;
 use crate::numbers::{EscrowNumber, ReceiptNumber};
 use crate::operation::Operation;
@@ -18,6 +20,41 @@ pub struct Claim {
     pub hash: [u8; 32],
     /// Whether a sweep after the deadline accepts the receipt, where it would otherwise expire.
     pub auto_accept: bool,
+}
+
+/// What the requester of a receipt replies: flag bit 2 of a [reply](Operation::Reply).
+#[derive(Clone, Copy, Debug, PartialEq, Eq, Hash)]
+pub enum Reply {
+    /// The receipt is accepted: the bit is set.
+    Accept,
+    /// The receipt is disputed: the bit is clear.
+    Dispute,
+}
+
+impl Reply {
+    /// Which of the two these flags of a reply say. Of a record that is malformed they say what was
+    /// meant.
+    pub fn from_flags(flags: u8) -> Reply {
+        if flags & Submission::ACCEPT != 0 {
+            Reply::Accept
+        } else {
+            Reply::Dispute
+        }
+    }
+
+    /// Its name, as `accept`.
+    pub fn name(self) -> &'static str {
+        match self {
+            Reply::Accept => "accept",
+            Reply::Dispute => "dispute",
+        }
+    }
+}
+
+impl fmt::Display for Reply {
+    fn fmt(&self, f: &mut fmt::Formatter<'_>) -> fmt::Result {
+        f.write_str(self.name())
+    }
 }
 
 impl Submission {
@@ -39,10 +76,9 @@ impl Submission {
     /// Accepts a receipt; the signer is its requester. It is refused after the receipt's acceptance
     /// deadline, as a [dispute](Submission::dispute) is.
     pub fn accept(envelope: Envelope, receipt: ReceiptNumber) -> Submission {
-        Submission {
-            target: receipt.0,
-            ..enveloped(Operation::Accept, envelope)
-        }
+        let mut submission = replying(envelope, receipt);
+        submission.flags |= Submission::ACCEPT;
+        submission
     }
 
     /// Disputes a receipt, for a reason that the host has been given; the signer is its requester.
@@ -82,14 +118,48 @@ impl Submission {
     /// # Ok::<(), Refusal>(())
     /// ```
     pub fn dispute(envelope: Envelope, receipt: ReceiptNumber, reason_given: bool) -> Submission {
-        let mut submission = Submission {
-            target: receipt.0,
-            ..enveloped(Operation::Dispute, envelope)
-        };
+        let mut submission = replying(envelope, receipt);
         if reason_given {
             submission.flags |= Submission::REASON;
         }
         submission
+    }
+
+    /// Which reply it is; none for another operation.
+    ///
+    /// Both are one operation, and its number in a record and in the journal does not tell them
+    /// apart.
+    ///
+    /// ```
+    /// use milebeacon::{Envelope, Operation, ReceiptNumber, Reply, Submission};
+    ///
+    /// let envelope = Envelope::new(1_000, 7, 1);
+    /// let accept = Submission::accept(envelope, ReceiptNumber(1));
+    /// let dispute = Submission::dispute(envelope, ReceiptNumber(1), true);
+    /// assert_eq!((accept.op, dispute.op), (7, 7));
+    /// assert_eq!(accept.operation(), Some(Operation::Reply));
+    /// assert_eq!(accept.reply(), Some(Reply::Accept));
+    /// assert_eq!(dispute.reply(), Some(Reply::Dispute));
+    /// assert_eq!(Submission::sweep(1_000, 1).reply(), None);
+    ///
+    /// // a reason is a dispute's
+    /// let mut both = accept;
+    /// both.flags |= Submission::REASON;
+    /// assert!(both.to_record().is_err());
+    /// ```
+    pub fn reply(&self) -> Option<Reply> {
+        match self.operation() {
+            Some(Operation::Reply) => Some(Reply::from_flags(self.flags)),
+            _ => None,
+        }
+    }
+}
+
+/// What both replies have in common, which is a dispute with no reason.
+fn replying(envelope: Envelope, receipt: ReceiptNumber) -> Submission {
+    Submission {
+        target: receipt.0,
+        ..enveloped(Operation::Reply, envelope)
     }
 }
 

@@ -53,7 +53,8 @@ impl Cell {
         }
     }
 
-    /// Every cell, row by row and in each by the answers' numbers.
+    /// Every cell, row by row and in each by the answers' numbers. Row 8 of the grid is no
+    /// operation's, and has none.
     pub fn all() -> impl Iterator<Item = Cell> {
         (0..GRID_ROWS)
             .flat_map(|row| (0..ANSWERS).map(move |column| (row as u64, column as u64)))
@@ -167,11 +168,11 @@ impl fmt::Display for Figure {
 /// ```
 /// use milebeacon::{Cell, Figure, Named, Operation};
 ///
-/// let entry = Cell::settled(Operation::Accept);
+/// let entry = Cell::settled(Operation::Reply);
 /// let named = Named { figure: Figure::Released, entry };
-/// assert_eq!(named.to_string(), "the credits released would pass 2^64 - 1 (accept: 0 settled)");
+/// assert_eq!(named.to_string(), "the credits released would pass 2^64 - 1 (reply: 0 settled)");
 /// let named = Named { figure: Figure::Cell, entry };
-/// assert_eq!(named.to_string(), "the count of accept: 0 settled would pass 2^64 - 1");
+/// assert_eq!(named.to_string(), "the count of reply: 0 settled would pass 2^64 - 1");
 /// ```
 #[derive(Clone, Copy, Debug, PartialEq, Eq, Hash)]
 pub struct Named {

@@ -57,7 +57,7 @@ mod tables;
 mod wallet;
 
 pub use answer::{status, Answer, Refusal, ANSWERS};
-pub use claim::Claim;
+pub use claim::{Claim, Reply};
 pub use entry::{Entries, Entry, Recorded, ENTRY_BYTES};
 pub use envelope::Envelope;
 pub use figure::{Cell, Figure, Named};

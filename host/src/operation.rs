@@ -1,4 +1,4 @@
-//! The twelve operations.
+//! The eleven operations.
 
 use std::fmt;
 
@@ -18,7 +18,7 @@ macro_rules! operations {
             /// Every operation, in the order of their numbers.
             pub const ALL: &'static [Operation] = &[$(Operation::$variant),*];
 
-            /// The operation with this number.
+            /// The operation with this number. There is none with 0 or 8, nor above the last.
             pub fn from_number(number: u8) -> Option<Operation> {
                 match number {
                     $($number => Some(Operation::$variant),)*
@@ -36,6 +36,7 @@ macro_rules! operations {
     };
 }
 
+// there is no 8: it was the dispute, and 7 the accept, before the two became one reply
 operations! {
     1 Grant "grant" "An admin makes new credits and gives them to a wallet.";
     2 Transfer "transfer" "The signer pays another wallet.";
@@ -43,16 +44,16 @@ operations! {
     4 Release "release" "An open escrow pays its recipient.";
     5 Refund "refund" "An open escrow goes back to its sender.";
     6 Claim "claim" "A provider claims work done for a requester: a receipt.";
-    7 Accept "accept" "The requester accepts a receipt, which releases its escrow.";
-    8 Dispute "dispute" "The requester disputes a receipt.";
+    7 Reply "reply" "The requester accepts a receipt, which releases its escrow, or disputes it.";
     9 Sweep "sweep" "Closes receipts and escrows whose deadlines have passed.";
     10 Freeze "freeze" "An admin freezes or thaws a wallet or the whole system.";
     11 Caps "caps" "An admin sets a wallet's caps.";
     12 Close "close" "An admin closes an empty wallet for good.";
 }
 
-/// The rows of a [report](crate::Report)'s grid: row 0, and one for each operation's number. A later
-/// operation widens the grid by its line above.
+/// The rows of a [report](crate::Report)'s grid: row 0, and one for each number up to the last
+/// operation's. Row 8 is no operation's, and nothing is counted in it. A later operation widens the
+/// grid by its line above.
 pub const GRID_ROWS: usize = Operation::ALL[Operation::ALL.len() - 1] as usize + 1;
 
 // they stand in the order of their numbers, so the last has the highest
@@ -65,7 +66,7 @@ const _: () = {
 };
 
 impl Operation {
-    /// Its number in a record, 1 to 12.
+    /// Its number in a record, 1 to 12 without 8.
     pub fn number(self) -> u8 {
         self as u8
     }

@@ -65,6 +65,10 @@ impl Report {
     /// A report brought along: its [grid](Report::grid), its [credits](Report::credits) and what it
     /// has [named](Report::named), any numbers.
     ///
+    /// What it brings along in row 8, such as the disputes that were counted there when they were an
+    /// operation by themselves, stays there: [`entries`](Report::entries) has it in its sum, and
+    /// [`counts`](Report::counts) does not.
+    ///
     /// ```
     /// use milebeacon::{Added, Envelope, Ledger, Recorder, Report, Sizes, Submission};
     ///
@@ -143,7 +147,7 @@ impl Report {
         self.grid[cell.row()][cell.column()]
     }
 
-    /// The cells that have a count other than 0, row by row, and their counts.
+    /// The [cells](Cell::all) that have a count other than 0, row by row, and their counts.
     pub fn counts(&self) -> impl Iterator<Item = (Cell, u64)> + '_ {
         let counts = Cell::all().map(|cell| (cell, self.count(cell)));
         counts.filter(|&(_, count)| count != 0)
@@ -155,7 +159,8 @@ impl Report {
     }
 
     /// The grid: a row for each operation, by its number, and row 0 for records of none; in each a
-    /// column for every answer, by its number.
+    /// column for every answer, by its number. Accepts and disputes are row 7. Row 8 is no
+    /// operation's, and nothing is counted in it.
     pub fn grid(&self) -> &ffi::Grid {
         &self.grid
     }

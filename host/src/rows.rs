@@ -117,7 +117,7 @@ row! {
     signer = 0;
     /// The signer's number for it.
     nonce = 1;
-    /// The number of its operation.
+    /// The number of its operation. Of a reply it is 7, and the receipt's state says which one.
     operation_word = 2;
     /// Its target.
     target = 3;

@@ -69,9 +69,12 @@ impl Submission {
     pub const ADMIN: u8 = 2;
     /// Flag bit 2, of a claim: accept it when its time is over.
     pub const AUTO_ACCEPT: u8 = 4;
+    /// Flag bit 2, of a reply: accept, where a clear bit disputes.
+    pub const ACCEPT: u8 = 4;
     /// Flag bit 2, of a freeze: freeze, where a clear bit thaws.
     pub const FREEZE: u8 = 4;
-    /// Flag bit 3, of a dispute: a reason was given.
+    /// Flag bit 3, of a reply that disputes: a reason was given. One that accepts is malformed with
+    /// it.
     pub const REASON: u8 = 8;
 
     /// New credits for the wallet `target`. Admins only.

@@ -123,13 +123,12 @@ fn a_report_counts_late_replies_in_a_column_of_their_own() {
     let mut report = Report::new();
     let added = report.add(&mut fresh(), &recording());
     assert_eq!(added, Ok(Added::All { entries: 8 }));
-    let accepts = Cell::refused(Operation::Accept, Refusal::AcceptanceClosed);
-    let disputes = Cell::refused(Operation::Dispute, Refusal::AcceptanceClosed);
-    assert_eq!((report.count(accepts), report.count(disputes)), (1, 2));
-    assert_eq!((report.grid()[7][41], report.grid()[8][41]), (1, 2));
+    let late = Cell::refused(Operation::Reply, Refusal::AcceptanceClosed);
+    assert_eq!(report.count(late), 3);
+    assert_eq!((report.grid()[7][41], report.grid()[8][41]), (3, 0));
     let column: u64 = report.grid().iter().map(|row| row[41]).sum();
     assert_eq!(column, 3);
-    let closed = Cell::refused(Operation::Accept, Refusal::ReceiptNotPending);
+    let closed = Cell::refused(Operation::Reply, Refusal::ReceiptNotPending);
     assert_eq!(report.count(closed), 1);
     assert_eq!(report.entries(), 8);
     // what the late accept did not release, the sweep did

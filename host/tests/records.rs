@@ -7,6 +7,9 @@ use milebeacon::{
 
 const NOW: u64 = 1_700_000_000_000;
 
+/// The numbers of their operations: both replies are 7.
+const NUMBERS: [u8; 12] = [1, 2, 3, 4, 5, 6, 7, 7, 9, 10, 11, 12];
+
 fn every_operation(envelope: Envelope) -> [Submission; 12] {
     let claim = Claim {
         requester: 8,
@@ -41,8 +44,9 @@ fn every_constructor_makes_a_well_formed_record_whoever_signs() {
         envelope.by_admin().unsigned(),
     ];
     for envelope in envelopes {
-        for (submission, &operation) in every_operation(envelope).iter().zip(Operation::ALL) {
-            assert_eq!(submission.operation(), Some(operation));
+        for (submission, number) in every_operation(envelope).iter().zip(NUMBERS) {
+            let operation = submission.operation().map(Operation::number);
+            assert_eq!((submission.op, operation), (number, Some(number)));
             let record = submission.to_record().expect("well formed");
             assert_eq!(Submission::read(&record), Ok(*submission));
             assert_eq!(Submission::try_from(&record[..]), Ok(*submission));

@@ -55,12 +55,13 @@ fn recordings_are_added_one_after_the_other_each_on_a_fresh_ledger() {
 
 #[test]
 fn every_cell_has_its_place_and_its_name() {
-    assert_eq!(GRID_ROWS, Operation::ALL.len() + 1);
-    assert_eq!(ANSWERS, Refusal::ALL.len() + 1);
+    assert_eq!((GRID_ROWS, ANSWERS), (13, Refusal::ALL.len() + 1));
     let places: Vec<_> = Cell::all()
         .map(|cell| (cell.row(), cell.column()))
         .collect();
-    let expected = (0..GRID_ROWS).flat_map(|row| (0..ANSWERS).map(move |column| (row, column)));
+    // row 8 is no operation's
+    let rows = (0..=7).chain(9..=12);
+    let expected = rows.flat_map(|row| (0..ANSWERS).map(move |column| (row, column)));
     assert_eq!(places, expected.collect::<Vec<_>>());
     let last = Cell::refused(Operation::Close, Refusal::WalletClosed);
     assert_eq!(last.to_string(), "close: 43 wallet_closed");
@@ -81,11 +82,11 @@ fn a_record_counts_in_the_row_of_its_operation_byte() {
         assert_eq!(added, Ok(Added::All { entries: 1 }));
         let cell = Cell::refused(Operation::from_number(byte), Refusal::MalformedRecord);
         assert_eq!(report.counts().collect::<Vec<_>>(), [(cell, 1)]);
-        assert_eq!(
-            cell.row(),
-            if byte <= 12 { usize::from(byte) } else { 0 },
-            "{byte}"
-        );
+        let row = match byte {
+            8 | 13.. => 0,
+            operation => operation.into(),
+        };
+        assert_eq!((cell.row(), report.grid()[row][3]), (row, 1), "{byte}");
         assert_eq!(report.credits(), [0; 5]);
     }
 }

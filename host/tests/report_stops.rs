@@ -73,8 +73,8 @@ fn a_figure_may_come_to_the_last_number_and_not_past_it() {
     for (room, before, operation) in [
         (0, 10, Operation::Release),
         (19, 10, Operation::Release),
-        (20, 15, Operation::Accept),
-        (79, 15, Operation::Accept),
+        (20, 15, Operation::Reply),
+        (79, 15, Operation::Reply),
         (80, SWEEP, Operation::Sweep),
         (129, SWEEP, Operation::Sweep),
     ] {

@@ -11,12 +11,13 @@ CSV, by RFC 4180, is one table, with the same lines whatever the recordings hold
                                    released, refunded and expired
   stopped,,,,,0                    0, unless the report stopped
 For a pivot table take the lines whose figure is `entries`: operation down, answer
-across, the sum of value. Operation 0 is none. Numbers are exact; a spreadsheet that
-keeps 15 digits rounds larger ones. If the report stopped, the last value is the
-number of the figure that would pass 2^64 - 1, granted to expired 1 to 5 or a count
-6, and its line has the operation and answer of the entry that it stopped before.";
+across, the sum of value. Operation 0 is none, 7 is both replies, and there is no 8.
+Numbers are exact; a spreadsheet that keeps 15 digits rounds larger ones. If the
+report stopped, the last value is the number of the figure that would pass 2^64 - 1,
+granted to expired 1 to 5 or a count 6, and its line has the operation and answer of
+the entry that it stopped before.";
 
-/// Its lines: a count for each cell of the grid, the five sums of credits, and whether it stopped.
+/// Its lines: a count for each cell of an operation or of none, the five sums of credits, and whether it stopped.
 pub fn csv(report: &Report) -> String {
     let mut text = "figure,operation_number,operation,answer_number,answer,value\r\n".to_owned();
     for cell in Cell::all() {

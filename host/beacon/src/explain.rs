@@ -3,7 +3,7 @@
 use std::fmt::Write as _;
 use std::process::ExitCode;
 
-use milebeacon::{Ledger, Operation, Sizes, Submission, RECORD_BYTES};
+use milebeacon::{Ledger, Operation, Reply, Sizes, Submission, RECORD_BYTES};
 
 use crate::files;
 use crate::problem::Problem;
@@ -54,11 +54,7 @@ pub fn sentence(s: &Submission) -> String {
         Some(Operation::Release) => format!("release escrow {target}"),
         Some(Operation::Refund) => format!("refund escrow {target}"),
         Some(Operation::Claim) => claim(s),
-        Some(Operation::Accept) => format!("accept receipt {target}"),
-        Some(Operation::Dispute) if s.has(Submission::REASON) => {
-            format!("dispute receipt {target}, with a reason")
-        }
-        Some(Operation::Dispute) => format!("dispute receipt {target}, with no reason"),
+        Some(Operation::Reply) => reply(s),
         Some(Operation::Sweep) => {
             return format!("at {}, sweep at most {} rows", moment(s.now), s.amount)
         }
@@ -98,6 +94,19 @@ pub fn sentence(s: &Submission) -> String {
         s.nonce,
         moment(s.issued),
         moment(s.expires)
+    )
+}
+
+fn reply(s: &Submission) -> String {
+    let reason = match Reply::from_flags(s.flags) {
+        Reply::Accept => "",
+        Reply::Dispute if s.has(Submission::REASON) => ", with a reason",
+        Reply::Dispute => ", with no reason",
+    };
+    format!(
+        "{} receipt {}{reason}",
+        Reply::from_flags(s.flags),
+        s.target
     )
 }
 

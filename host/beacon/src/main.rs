@@ -12,6 +12,7 @@ mod counts;
 mod csv;
 mod explain;
 mod files;
+mod kind;
 mod log;
 mod operations;
 mod problem;

@@ -1,11 +1,12 @@
 //! The options of `beacon record`: what the record of each operation uses.
 
 use clap::{Arg, Command};
-use milebeacon::Operation;
+use milebeacon::{Operation, Reply};
 
 use crate::command::{flag, parse_number};
+use crate::kind::Kind;
 
-/// The command, with a subcommand for each operation.
+/// The command, with a subcommand for each operation, and for a reply two.
 pub fn command() -> Command {
     let mut command = Command::new("record")
         .about("Writes a record")
@@ -13,8 +14,8 @@ pub fn command() -> Command {
         .subcommand_required(true)
         .subcommand_value_name("OPERATION")
         .subcommand_help_heading("Operations");
-    for &operation in Operation::ALL {
-        command = command.subcommand(operation_command(operation));
+    for kind in Kind::all() {
+        command = command.subcommand(kind_command(kind));
     }
     command
 }
@@ -52,11 +53,11 @@ const TARGET_CLOSED: &str = "If the wallet is closed, the answer is 43 wallet_cl
 const EITHER_CLOSED: &str =
     "If the signer's or the target's wallet is closed, the answer is 43 wallet_closed.";
 
-/// The options of one operation: what its record uses, and nothing else.
-fn operation_command(operation: Operation) -> Command {
-    let command = Command::new(operation.name())
-        .about(about(operation))
-        .after_help(more(operation))
+/// The options of one kind: what its record uses, and nothing else.
+fn kind_command(kind: Kind) -> Command {
+    let command = Command::new(kind.name())
+        .about(about(kind))
+        .after_help(more(kind))
         .arg(maybe(
             "now",
             "The clock, in milliseconds [default: this machine's]",
@@ -67,10 +68,12 @@ fn operation_command(operation: Operation) -> Command {
                 .value_name("FILE")
                 .help("Append the record to FILE [default: standard output]"),
         );
-    if operation.has_envelope() {
-        own_options(enveloped(command), operation)
-    } else {
-        own_options(command, operation)
+    match kind {
+        Kind::Reply(reply) => reply_options(enveloped(command), reply),
+        Kind::Plain(operation) if operation.has_envelope() => {
+            own_options(enveloped(command), operation)
+        }
+        Kind::Plain(operation) => own_options(command, operation),
     }
 }
 
@@ -87,6 +90,14 @@ fn enveloped(command: Command) -> Command {
             "Until when it may settle [default: a minute after issue]",
         ))
         .arg(flag("unsigned", "No valid signature is held"))
+}
+
+fn reply_options(command: Command, reply: Reply) -> Command {
+    let command = command.arg(number("target", "The receipt's number"));
+    match reply {
+        Reply::Accept => command,
+        Reply::Dispute => command.arg(flag("reason", "A reason was given")),
+    }
 }
 
 fn own_options(command: Command, operation: Operation) -> Command {
@@ -123,10 +134,6 @@ fn own_options(command: Command, operation: Operation) -> Command {
                     .help("The hash of the work, 64 hex digits [default: zeros]"),
             )
             .arg(flag("auto-accept", "Accept it when its time is over")),
-        Operation::Accept => command.arg(number("target", "The receipt's number")),
-        Operation::Dispute => command
-            .arg(number("target", "The receipt's number"))
-            .arg(flag("reason", "A reason was given")),
         Operation::Sweep => {
             command.arg(number("amount", "The most rows to close, 1 to 1000").alias("limit"))
         }
@@ -150,7 +157,12 @@ fn own_options(command: Command, operation: Operation) -> Command {
     }
 }
 
-fn about(operation: Operation) -> &'static str {
+fn about(kind: Kind) -> &'static str {
+    let operation = match kind {
+        Kind::Reply(Reply::Accept) => return "Accepts a receipt, which releases its escrow",
+        Kind::Reply(Reply::Dispute) => return "Disputes a receipt",
+        Kind::Plain(operation) => operation,
+    };
     match operation {
         Operation::Grant => "New credits for a wallet, by an admin",
         Operation::Transfer => "Pays another wallet",
@@ -158,8 +170,6 @@ fn about(operation: Operation) -> &'static str {
         Operation::Release => "Pays an open escrow to its recipient",
         Operation::Refund => "Gives an open escrow back to its sender",
         Operation::Claim => "Claims work done for a requester",
-        Operation::Accept => "Accepts a receipt, which releases its escrow",
-        Operation::Dispute => "Disputes a receipt",
         Operation::Sweep => "Closes receipts and escrows whose deadlines have passed",
         Operation::Freeze => "Freezes a wallet or the whole system, by an admin",
         Operation::Caps => "Sets a wallet's caps, by an admin",
@@ -169,12 +179,13 @@ fn about(operation: Operation) -> &'static str {
 }
 
 /// What a person had better know before writing one.
-fn more(operation: Operation) -> &'static str {
-    match operation {
-        Operation::Transfer | Operation::Open | Operation::Claim => EITHER_CLOSED,
-        Operation::Grant | Operation::Freeze | Operation::Caps => TARGET_CLOSED,
-        Operation::Accept | Operation::Dispute => REPLY_WINDOW,
-        Operation::Close => CLOSING,
-        _ => "",
+fn more(kind: Kind) -> &'static str {
+    use Operation::{Caps, Claim, Close, Freeze, Grant, Open, Transfer};
+    match kind {
+        Kind::Reply(_) => REPLY_WINDOW,
+        Kind::Plain(Transfer | Open | Claim) => EITHER_CLOSED,
+        Kind::Plain(Grant | Freeze | Caps) => TARGET_CLOSED,
+        Kind::Plain(Close) => CLOSING,
+        Kind::Plain(_) => "",
     }
 }

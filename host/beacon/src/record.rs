@@ -5,10 +5,12 @@ use std::time::{SystemTime, UNIX_EPOCH};
 
 use clap::ArgMatches;
 use milebeacon::{
-    Claim, Envelope, EscrowNumber, Freezable, Operation, ReceiptNumber, Submission, RECORD_BYTES,
+    Claim, Envelope, EscrowNumber, Freezable, Operation, ReceiptNumber, Reply, Submission,
+    RECORD_BYTES,
 };
 
 use crate::files;
+use crate::kind::Kind;
 use crate::problem::Problem;
 
 const MINUTE_MS: u64 = 60_000;
@@ -21,11 +23,10 @@ pub fn write(matches: &ArgMatches, output: &mut Vec<u8>) -> Result<ExitCode, Pro
     let (name, matches) = matches
         .subcommand()
         .ok_or_else(|| Problem::Usage("say which operation; --help lists them".to_owned()))?;
-    let operation = Operation::ALL
-        .iter()
-        .find(|operation| operation.name() == name)
+    let kind = Kind::all()
+        .find(|kind| kind.name() == name)
         .ok_or_else(|| Problem::Usage(format!("{name} is no operation")))?;
-    let submission = submission(*operation, &Options(matches))?;
+    let submission = submission(kind, &Options(matches))?;
     let record = submission
         .to_record()
         .map_err(|_| Problem::Input(format!("no {name} record: {}", fault(&submission))))?;
@@ -66,20 +67,21 @@ impl Options<'_> {
     }
 }
 
-fn submission(operation: Operation, options: &Options<'_>) -> Result<Submission, Problem> {
+fn submission(kind: Kind, options: &Options<'_>) -> Result<Submission, Problem> {
     let now = options.maybe("now").unwrap_or_else(machine_clock);
-    let amount = |options: &Options<'_>| options.number("amount");
-    if operation == Operation::Sweep {
-        return Ok(Submission::sweep(now, amount(options)));
+    if kind == Kind::Plain(Operation::Sweep) {
+        return Ok(Submission::sweep(now, options.number("amount")));
     }
     let asks_for_admin = matches!(
-        operation,
-        Operation::Grant
-            | Operation::Release
-            | Operation::Refund
-            | Operation::Freeze
-            | Operation::Caps
-            | Operation::Close
+        kind,
+        Kind::Plain(
+            Operation::Grant
+                | Operation::Release
+                | Operation::Refund
+                | Operation::Freeze
+                | Operation::Caps
+                | Operation::Close
+        )
     );
     let issued = options.maybe("issued").unwrap_or(now);
     let envelope = Envelope {
@@ -93,22 +95,44 @@ fn submission(operation: Operation, options: &Options<'_>) -> Result<Submission,
         signed: !options.flag("unsigned"),
         admin: asks_for_admin && options.flag("admin"),
     };
+    match kind {
+        Kind::Reply(reply) => Ok(replying(reply, envelope, options)),
+        Kind::Plain(operation) => plain(operation, envelope, options),
+    }
+}
+
+fn replying(reply: Reply, envelope: Envelope, options: &Options<'_>) -> Submission {
+    let receipt = ReceiptNumber(options.number("target"));
+    match reply {
+        Reply::Accept => Submission::accept(envelope, receipt),
+        Reply::Dispute => Submission::dispute(envelope, receipt, options.flag("reason")),
+    }
+}
+
+fn plain(
+    operation: Operation,
+    envelope: Envelope,
+    options: &Options<'_>,
+) -> Result<Submission, Problem> {
     let target = options.number("target");
+    let amount = || options.number("amount");
+    let until = |from, usual| {
+        let until = options.maybe("until");
+        until.unwrap_or_else(|| after(from, usual))
+    };
     Ok(match operation {
-        Operation::Grant => Submission::grant(envelope, target, amount(options)),
-        Operation::Transfer => Submission::transfer(envelope, target, amount(options)),
+        Operation::Grant => Submission::grant(envelope, target, amount()),
+        Operation::Transfer => Submission::transfer(envelope, target, amount()),
         Operation::Open => {
-            let until = options.maybe("until").unwrap_or_else(|| after(now, DAY_MS));
-            Submission::open(envelope, target, amount(options), until)
+            let until = until(envelope.now, DAY_MS);
+            Submission::open(envelope, target, amount(), until)
         }
         Operation::Release => Submission::release(envelope, EscrowNumber(target)),
         Operation::Refund => Submission::refund(envelope, EscrowNumber(target)),
         Operation::Claim => {
             let claim = Claim {
                 requester: target,
-                until: options
-                    .maybe("until")
-                    .unwrap_or_else(|| after(issued, HOUR_MS)),
+                until: until(envelope.issued, HOUR_MS),
                 escrow: options
                     .maybe("link")
                     .filter(|&link| link != 0)
@@ -118,10 +142,6 @@ fn submission(operation: Operation, options: &Options<'_>) -> Result<Submission,
             };
             Submission::claim(envelope, claim)
         }
-        Operation::Accept => Submission::accept(envelope, ReceiptNumber(target)),
-        Operation::Dispute => {
-            Submission::dispute(envelope, ReceiptNumber(target), options.flag("reason"))
-        }
         Operation::Freeze => {
             let what = if target == 0 {
                 Freezable::System
@@ -130,9 +150,7 @@ fn submission(operation: Operation, options: &Options<'_>) -> Result<Submission,
             };
             Submission::freeze(envelope, what, !options.flag("thaw"))
         }
-        Operation::Caps => {
-            Submission::caps(envelope, target, amount(options), options.number("link"))
-        }
+        Operation::Caps => Submission::caps(envelope, target, amount(), options.number("link")),
         Operation::Close => Submission::close(envelope, target),
         other => return Err(Problem::Usage(format!("{other} has no options here"))),
     })

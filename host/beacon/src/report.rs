@@ -22,7 +22,8 @@ pub fn command() -> Command {
             "Replays each recording on a fresh ledger and counts its entries by operation and by \
              the core's own answer. Prints the grid of counts, a row for each answer and a column \
              for each operation, and the credits granted, transferred, released, refunded and \
-             expired. Recorded answers are not looked at: \
+             expired. Accepts and disputes are one operation, reply. Recorded answers are not looked \
+             at: \
              `beacon replay` compares them. The sizes of the tables must be those that the \
              recordings were made with. An entry cut short at the end of a recording is not \
              counted, which is told on standard error.\n\n\

@@ -3,11 +3,10 @@
 use std::fmt::Write as _;
 use std::process::ExitCode;
 
-use milebeacon::{
-    Answer, Ledger, Operation, Record, Recorder, Refusal, Sizes, WalletRow, RECORD_BYTES,
-};
+use milebeacon::{Answer, Ledger, Record, Recorder, Refusal, Sizes, WalletRow, RECORD_BYTES};
 
 use crate::files;
+use crate::kind::Kind;
 use crate::log::Log;
 use crate::problem::Problem;
 use crate::show::{credits, entries, table};
@@ -70,10 +69,9 @@ pub fn run(
 
 /// A record's answer, on a line.
 fn line(ordinal: u64, piece: &[u8], answer: Answer) -> String {
-    let operation = piece.get(2).and_then(|&byte| Operation::from_number(byte));
     format!(
         "{ordinal}: {}: {} {}, word {}, status {}\n",
-        operation.map_or("no operation", Operation::name),
+        Kind::of(piece).map_or("no operation", Kind::name),
         answer.number(),
         answer.name(),
         answer.word(),

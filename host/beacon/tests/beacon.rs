@@ -2,11 +2,12 @@
 
 mod tool;
 
+use std::collections::BTreeSet;
 use std::fs;
 use std::io::Write;
 use std::process::Stdio;
 
-use milebeacon::{Claim, Envelope, EscrowNumber, Operation, Submission, RECORD_BYTES};
+use milebeacon::{Claim, Envelope, EscrowNumber, Operation, Reply, Submission, RECORD_BYTES};
 
 use tool::{beacon, fails, file, first_records, succeeds, text};
 
@@ -54,13 +55,17 @@ fn every_operation_writes_a_record() {
         "caps --signer 1 --target 7 --amount 5 --daily 6 --admin",
         "close --signer 1 --target 7 --admin",
     ];
-    assert_eq!(operations.len(), Operation::ALL.len());
-    for (number, words) in (1..).zip(operations) {
+    let mut written = BTreeSet::new();
+    for words in operations {
         let words: Vec<&str> = ["record"].into_iter().chain(words.split(' ')).collect();
         let record = succeeds(&words);
         let read = Submission::read(&record).expect("well formed");
-        assert_eq!(read.op, number);
+        written.insert(read.operation());
+        // a reply is written by its own name
+        let name = read.operation().map(Operation::name);
+        assert_eq!(read.reply().map(Reply::name).or(name), Some(words[1]));
     }
+    assert_eq!(written.len(), Operation::ALL.len());
 }
 
 #[test]

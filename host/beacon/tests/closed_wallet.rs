@@ -135,9 +135,9 @@ fn a_report_has_a_row_and_two_columns_more() {
         let row = text(&shown).lines().nth(4 + number).expect("a row");
         row.split_whitespace().collect::<Vec<_>>().join(" ")
     };
-    assert_eq!(row(0), "0 settled - 1 1 - - - - - - - 1 - 1 4");
-    assert_eq!(row(42), "42 wallet_not_empty - - - - - - - - - - - - 1 1");
-    assert_eq!(row(43), "43 wallet_closed - 1 - - - - - - - - 1 - - 2");
+    assert_eq!(row(0), "0 settled - 1 1 - - - - - - 1 - 1 4");
+    assert_eq!(row(42), "42 wallet_not_empty - - - - - - - - - - - 1 1");
+    assert_eq!(row(43), "43 wallet_closed - 1 - - - - - - - 1 - - 2");
 
     let csv = succeeds(&["report", "--csv", &path]);
     for line in [

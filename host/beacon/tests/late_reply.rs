@@ -102,9 +102,8 @@ fn a_report_has_late_replies_by_their_number() {
     let path = recording("reported", &LATE);
     let brief = succeeds(&["report", "--brief", &path]);
     let lines = "
-  accept     41 acceptance_closed              1
-  dispute    35 dispute_reason_required        1
-  dispute    41 acceptance_closed              2
+  reply      35 dispute_reason_required        1
+  reply      41 acceptance_closed              3
 ";
     assert!(text(&brief).contains(lines), "{}", text(&brief));
 
@@ -113,16 +112,12 @@ fn a_report_has_late_replies_by_their_number() {
     let row: Vec<&str> = row.split_whitespace().collect();
     assert_eq!(
         row.join(" "),
-        "41 acceptance_closed - - - - - - - 1 2 - - - - 3"
+        "41 acceptance_closed - - - - - - - 3 - - - - 3"
     );
 
     let csv = succeeds(&["report", "--csv", &path]);
-    for line in [
-        "entries,7,accept,41,acceptance_closed,1\r\n",
-        "entries,8,dispute,41,acceptance_closed,2\r\n",
-    ] {
-        assert!(text(&csv).contains(line), "{}", text(&csv));
-    }
+    let line = "\r\nentries,7,reply,41,acceptance_closed,3\r\n";
+    assert!(text(&csv).contains(line), "{}", text(&csv));
 }
 
 #[test]

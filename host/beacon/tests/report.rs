@@ -86,14 +86,14 @@ fn many_recordings_are_one_report_each_on_a_fresh_ledger() {
 
 #[test]
 fn records_of_no_operation_have_a_row() {
-    let mut bytes = vec![0; 3 * ENTRY_BYTES];
-    bytes[2] = 13;
-    bytes[ENTRY_BYTES + 2] = 255;
-    bytes[2 * ENTRY_BYTES + 2] = 12;
+    let mut bytes = vec![0; 4 * ENTRY_BYTES];
+    for (place, operation) in [13, 255, 12, 8].into_iter().enumerate() {
+        bytes[place * ENTRY_BYTES + 2] = operation;
+    }
     let shown = succeeds(&["report", "--brief", &written("noise.rec", &bytes)]);
     let expected = "
   operation     answer               entries
-  no operation   3 malformed_record        2
+  no operation   3 malformed_record        3
   close          3 malformed_record        1
 ";
     assert!(text(&shown).contains(expected), "{}", text(&shown));
@@ -105,26 +105,26 @@ fn the_grid_has_every_operation_and_answer() {
     let shown = succeeds(&["report", &path]);
     let lines: Vec<&str> = text(&shown).lines().collect();
     let words = |line: &str| line.split_whitespace().map(str::to_owned).collect();
-    let operations = "no operation grant transfer open release refund claim accept dispute sweep \
-                      freeze caps close entries";
+    let operations = "no operation grant transfer open release refund claim reply sweep freeze \
+                      caps close entries";
     let names: Vec<String> = words(lines[3]);
     assert_eq!(names.join(" "), format!("answer {operations}"));
     let counts: [(usize, &str, &str); 8] = [
-        (0, "settled", "- 1 2 3 1 1 - - - 1 - - - 9"),
-        (1, "bad_table", "- - - - - - - - - - - - - -"),
-        (11, "nonce_seen", "- - - 1 - - - - - - - - - 1"),
-        (12, "amount_out_of_range", "- - 1 - - - - - - - - - - 1"),
-        (35, "dispute_reason_required", "- - - - - - - - - - - - - -"),
-        (41, "acceptance_closed", "- - - - - - - - - - - - - -"),
-        (42, "wallet_not_empty", "- - - - - - - - - - - - - -"),
-        (43, "wallet_closed", "- - - - - - - - - - - - - -"),
+        (0, "settled", "- 1 2 3 1 1 - - 1 - - - 9"),
+        (1, "bad_table", "- - - - - - - - - - - - -"),
+        (11, "nonce_seen", "- - - 1 - - - - - - - - 1"),
+        (12, "amount_out_of_range", "- - 1 - - - - - - - - - 1"),
+        (35, "dispute_reason_required", "- - - - - - - - - - - - -"),
+        (41, "acceptance_closed", "- - - - - - - - - - - - -"),
+        (42, "wallet_not_empty", "- - - - - - - - - - - - -"),
+        (43, "wallet_closed", "- - - - - - - - - - - - -"),
     ];
     for (number, name, row) in counts {
         let found: Vec<String> = words(lines[4 + number]);
         assert_eq!(found.join(" "), format!("{number} {name} {row}"));
     }
     let sums: Vec<String> = words(lines[48]);
-    assert_eq!(sums.join(" "), "entries - 1 3 4 1 1 - - - 1 - - - 11");
+    assert_eq!(sums.join(" "), "entries - 1 3 4 1 1 - - 1 - - - 11");
     // every line as wide as the first, and the rest as ever
     assert!(lines[3..49].iter().all(|line| line.len() == lines[3].len()));
     let rest = BUSY.split_once("\ncredits\n").expect("both parts").1;

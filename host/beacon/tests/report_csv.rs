@@ -28,14 +28,16 @@ fn csv_is_one_table_with_a_line_for_every_cell() {
         .collect();
     let names = "figure operation_number operation answer_number answer value";
     assert_eq!(lines[0].join(" "), names);
-    assert_eq!(lines.len(), 1 + 13 * 44 + 5 + 1);
+    assert_eq!(lines.len(), 1 + 12 * 44 + 5 + 1);
     assert!(lines.iter().all(|fields| fields.len() == 6));
     // no field needs quotation marks
     assert!(!shown.contains('"'));
 
     let mut entries = 0;
-    for (place, fields) in lines[1..=13 * 44].iter().enumerate() {
+    for (place, fields) in lines[1..=12 * 44].iter().enumerate() {
         let (row, column) = (place / 44, place % 44);
+        // there is no operation 8
+        let row = if row < 8 { row } else { row + 1 };
         assert_eq!(fields[0], "entries");
         assert_eq!(
             (fields[1], fields[3]),
@@ -49,6 +51,8 @@ fn csv_is_one_table_with_a_line_for_every_cell() {
         ("entries,1,grant,0,settled", "1"),
         ("entries,3,open,0,settled", "3"),
         ("entries,3,open,11,nonce_seen", "1"),
+        ("entries,7,reply,35,dispute_reason_required", "0"),
+        ("entries,9,sweep,0,settled", "1"),
         ("entries,11,caps,40,journal_table_full", "0"),
         ("entries,12,close,0,settled", "0"),
         ("entries,12,close,43,wallet_closed", "0"),

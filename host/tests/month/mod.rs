@@ -70,7 +70,7 @@ pub fn records() -> Vec<Record> {
 
 /// What the grid has of them, by hand.
 pub fn counts() -> Vec<(Cell, u64)> {
-    use Operation::{Accept, Claim, Grant, Open, Refund, Release, Sweep, Transfer};
+    use Operation::{Claim, Grant, Open, Refund, Release, Reply, Sweep, Transfer};
     vec![
         (Cell::refused(None, Refusal::MalformedRecord), 1),
         (Cell::settled(Grant), 1),
@@ -84,7 +84,7 @@ pub fn counts() -> Vec<(Cell, u64)> {
         (Cell::refused(Release, Refusal::EscrowNotOpen), 1),
         (Cell::settled(Refund), 1),
         (Cell::settled(Claim), 2),
-        (Cell::settled(Accept), 1),
+        (Cell::settled(Reply), 1),
         (Cell::settled(Sweep), 1),
         (Cell::refused(Sweep, Refusal::ClockBack), 1),
     ]
