@@ -159,6 +159,7 @@ lent_tables! {
 extern "C" {
     fn milebeacon_read(record: *const u8, record_len: usize) -> Read;
     fn milebeacon_write(submission: Submission, out: *mut u8, out_len: usize) -> u64;
+    fn milebeacon_convert(recording: *mut u8, recording_len: usize);
     fn milebeacon_status(number: u64) -> u64;
     fn milebeacon_wallet_row(
         header: *const u64,
@@ -240,6 +241,12 @@ pub fn write(submission: Submission, out: &mut [u8]) -> u64 {
     // SAFETY: the pointer and count are those of a live slice that is borrowed mutably; the archive
     // writes within it only.
     unsafe { milebeacon_write(submission, out.as_mut_ptr(), out.len()) }
+}
+
+/// Turns a recording of the old form of replies into today's, in place.
+pub fn convert(recording: &mut [u8]) {
+    // SAFETY: as for `write`.
+    unsafe { milebeacon_convert(recording.as_mut_ptr(), recording.len()) }
 }
 
 /// The status of an answer's number.

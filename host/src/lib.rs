@@ -31,7 +31,8 @@
 //! A host keeps a [`Recording`] of what it submitted and was answered: a [`Recorder`] writes it while
 //! the ledger settles, and [`Ledger::replay`] says whether the core gives the same answers again. A
 //! [`Report`] counts the entries of any number of recordings by operation and answer, and adds up the
-//! credits that they moved.
+//! credits that they moved. [`Recording::convert`] turns a recording of the old form of replies into
+//! today's.
 
 #![deny(unsafe_code)]
 #![warn(missing_docs)]

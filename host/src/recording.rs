@@ -5,6 +5,7 @@ use std::fmt;
 
 use crate::answer::Answer;
 use crate::entry::{entry_bytes, Entries, Entry};
+use crate::ffi;
 use crate::record::Record;
 
 /// Submission records with their answers, in the order in which they were submitted.
@@ -115,6 +116,50 @@ impl Recording {
     pub fn drop_cut(&mut self) -> Vec<u8> {
         let whole = self.bytes.len() - self.cut().len();
         self.bytes.split_off(whole)
+    }
+
+    /// Turns a recording of the old form into today's, in place.
+    ///
+    /// In the old form operation 7 was an accept, with no flag but
+    /// [`SIGNED`](crate::Submission::SIGNED), and operation 8 a dispute, with
+    /// [`REASON`](crate::Submission::REASON) if one was given. All else was as it is today. An accept
+    /// gets [`ACCEPT`](crate::Submission::ACCEPT), and a dispute operation 7. A record that was
+    /// malformed gets operation 0, lest it be a reply of today's form. Every other byte stays, those
+    /// of the answers and of an entry that is cut short too.
+    ///
+    /// What is promised: on a fresh ledger the entries get the answers and words that they got in the
+    /// old form, all other rules being today's. So a recording that agreed with the core in the old
+    /// form agrees with a [replay](crate::Ledger::replay) once it is converted.
+    ///
+    /// It is to be done **once**. Today's replies are something else in the old form: an accept is
+    /// malformed, so is a dispute with a reason, and one without is an accept. Nothing in the bytes
+    /// says for sure in which form a recording is, and none is refused.
+    ///
+    /// ```
+    /// use milebeacon::{Answer, Envelope, Ledger, ReceiptNumber, Recording, Refusal, Sizes, Submission};
+    ///
+    /// let envelope = Envelope::new(1_000, 7, 1);
+    /// let accept = Submission::accept(envelope, ReceiptNumber(1));
+    /// let dispute = Submission::dispute(envelope, ReceiptNumber(1), true);
+    ///
+    /// // as they were recorded, on a ledger with no receipt
+    /// let (mut old_accept, mut old_dispute) = (accept.to_record()?, dispute.to_record()?);
+    /// old_accept[3] = Submission::SIGNED;
+    /// old_dispute[2] = 8;
+    /// let mut recording = Recording::new();
+    /// for record in [old_accept, old_dispute] {
+    ///     recording.push(&record, Answer::Refused(Refusal::ReceiptNotFound))?;
+    /// }
+    ///
+    /// recording.convert();
+    /// let records: Vec<_> = recording.entries().map(|entry| *entry.record).collect();
+    /// assert_eq!(records, [accept.to_record()?, dispute.to_record()?]);
+    /// let mut ledger = Ledger::new(Sizes::PROGRAM)?;
+    /// assert!(ledger.replay(recording.as_bytes())?.all_agree());
+    /// # Ok::<(), Box<dyn std::error::Error>>(())
+    /// ```
+    pub fn convert(&mut self) {
+        ffi::convert(&mut self.bytes);
     }
 }
 
