@@ -2,10 +2,10 @@
 
 use std::fs::{File, OpenOptions};
 use std::io::{self, Write};
-use std::path::Path;
 
 use milebeacon::ENTRY_BYTES;
 
+use crate::files::sync_folder;
 use crate::problem::Problem;
 
 /// Where entries go: a new file, or nowhere.
@@ -64,23 +64,7 @@ fn cut_to_whole_entries(file: &File) -> io::Result<()> {
 
 fn synced(path: &str, file: &File) -> io::Result<()> {
     file.sync_all()?;
-    sync_folder(path)
-}
-
-/// Waits until the file's name is on the disk, which is in its folder. A folder that may not be
-/// listed, or a file system that does not know how to wait for one, is no error: nothing more can be
-/// done there. A disk that fails is one.
-fn sync_folder(path: &str) -> io::Result<()> {
-    let folder = match Path::new(path).parent() {
-        Some(folder) if folder != Path::new("") => folder,
-        // a bare name
-        _ => Path::new("."),
-    };
-    let excused = [io::ErrorKind::PermissionDenied, io::ErrorKind::InvalidInput];
-    match File::open(folder).and_then(|folder| folder.sync_all()) {
-        Err(error) if excused.contains(&error.kind()) => Ok(()),
-        synced => synced,
-    }
+    sync_folder(path.as_ref())
 }
 
 fn create(path: &str) -> Result<File, Problem> {

@@ -61,7 +61,7 @@ pub fn report(matches: &ArgMatches, output: &mut Vec<u8>) -> Result<ExitCode, Pr
         let line = "standard input, -, can be read only once";
         return Err(Problem::Usage(line.to_owned()));
     }
-    for path in &paths {
+    for path in paths.iter().filter(|&&path| path != "-") {
         files::look_for(path)?;
     }
     let counted = count(&paths, sizes::asked_for(matches))?;
