@@ -6,7 +6,7 @@ use std::process::ExitCode;
 use clap::{Arg, ArgAction, ArgMatches, Command};
 
 use crate::problem::Problem;
-use crate::{explain, operations, record, replay, report, run, sizes};
+use crate::{convert, explain, operations, record, replay, report, run, sizes};
 
 /// Does what the words ask for. What is to be printed goes to `output`.
 pub fn dispatch(
@@ -33,8 +33,9 @@ pub fn dispatch(
             replay::replay(file(matches), sizes::asked_for(matches), output)
         }
         Some(("report", matches)) => report::report(matches, output),
+        Some(("convert", matches)) => convert::convert(matches, output),
         _ => Err(Problem::Usage(
-            "say record, explain, run, replay or report; --help tells more".to_owned(),
+            "say record, explain, run, replay, report or convert; --help tells more".to_owned(),
         )),
     }
 }
@@ -53,7 +54,10 @@ fn command() -> Command {
     };
     Command::new("beacon")
         .version("0.1.0")
-        .about("Writes, explains and settles submission records; replays and counts recordings")
+        .about(
+            "Writes, explains and settles submission records; replays, counts and converts \
+             recordings",
+        )
         .disable_help_subcommand(true)
         .subcommand(operations::command())
         .subcommand(
@@ -76,6 +80,7 @@ fn command() -> Command {
         ))
         .subcommand(replay_command())
         .subcommand(report::command())
+        .subcommand(convert::command())
 }
 
 fn replay_command() -> Command {

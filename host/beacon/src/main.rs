@@ -1,13 +1,15 @@
-//! `beacon`: writes, explains and settles submission records, replays recordings of them and counts
-//! what they hold.
+//! `beacon`: writes, explains and settles submission records, replays recordings of them, counts what
+//! they hold and converts those of the old form.
 //!
 //! Bad input gets one line on standard error and a status that is not 0: 2 for a command that makes
 //! no sense, 1 for everything else. A replay that does not agree is a finding, with a status of its
-//! own, and so is a report that stops.
+//! own, and so are a report that stops and a recording that is not in the form that it is to be
+//! converted from.
 
 #![forbid(unsafe_code)]
 
 mod command;
+mod convert;
 mod counts;
 mod csv;
 mod explain;
@@ -23,6 +25,7 @@ mod run;
 mod show;
 mod sizes;
 mod waiting;
+mod whole;
 
 use std::env;
 use std::io::{self, Write};

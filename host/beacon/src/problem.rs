@@ -4,6 +4,7 @@ use std::fmt;
 use std::io;
 use std::process::ExitCode;
 
+use crate::convert::NOT_OLD;
 use crate::report::STOPPED;
 
 /// One line for the person who gave the command.
@@ -15,6 +16,8 @@ pub enum Problem {
     Input(String),
     /// A report stopped, and is printed as far as it goes.
     Stopped(String),
+    /// A recording is not in the old form, and was not converted.
+    NotOld(String),
 }
 
 impl Problem {
@@ -29,6 +32,7 @@ impl Problem {
             Problem::Usage(_) => ExitCode::from(2),
             Problem::Input(_) => ExitCode::FAILURE,
             Problem::Stopped(_) => ExitCode::from(STOPPED),
+            Problem::NotOld(_) => ExitCode::from(NOT_OLD),
         }
     }
 }
@@ -36,9 +40,10 @@ impl Problem {
 impl fmt::Display for Problem {
     fn fmt(&self, f: &mut fmt::Formatter<'_>) -> fmt::Result {
         match self {
-            Problem::Usage(line) | Problem::Input(line) | Problem::Stopped(line) => {
-                f.write_str(line)
-            }
+            Problem::Usage(line)
+            | Problem::Input(line)
+            | Problem::Stopped(line)
+            | Problem::NotOld(line) => f.write_str(line),
         }
     }
 }

@@ -171,7 +171,7 @@ fn standard_input_is_a_file_too() {
 fn bad_input_gets_one_line() {
     let open = "record open --signer 7 --target 8 --amount 3";
     let cases = [
-        ("", 2, "say record, explain, run, replay or report"),
+        ("", 2, "say record, explain, run, replay, report or convert"),
         ("record", 2, "grant, transfer, open"),
         ("record opn", 2, "Did you mean 'open'"),
         ("record open --signer 7 --target 8", 2, "--amount"),
