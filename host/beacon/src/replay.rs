@@ -3,7 +3,7 @@
 use std::process::ExitCode;
 
 use milebeacon::{
-    status, Ledger, Recorded, Recording, Refusal, Replay, Sizes, Submission, ENTRY_BYTES,
+    status, Entry, Ledger, Recorded, Recording, Refusal, Replay, Sizes, Submission, ENTRY_BYTES,
 };
 
 use crate::explain::sentence;
@@ -58,7 +58,8 @@ fn disagreement(
     let before = number.saturating_sub(1);
     let after = (recording.len() as u64).saturating_sub(number);
     let place = usize::try_from(before).unwrap_or(usize::MAX);
-    let record = match recording.entries().nth(place) {
+    let entry = recording.entries().nth(place);
+    let record = match entry {
         Some(entry) => Submission::read(entry.record)
             .map_or_else(|_| "no well-formed record".to_owned(), |s| sentence(&s)),
         None => "no record".to_owned(),
@@ -82,7 +83,21 @@ fn disagreement(
         text += "one of the answers says that a table is full: the sizes of the tables may not be \
                  those of the recording\n";
     }
+    if entry.map_or(false, |entry| may_be_old(entry, answered)) {
+        text += "the recording may be in the old form, in which operation 7 accepts and 8 \
+                 disputes: `beacon convert` turns it into the new one\n";
+    }
     text
+}
+
+/// Whether the answer is that to a reply of the old form: an accept is a dispute with no reason now,
+/// and a dispute is malformed.
+fn may_be_old(entry: Entry<'_>, answered: Recorded) -> bool {
+    match Refusal::from_number(answered.number.into()) {
+        Some(Refusal::DisputeReasonRequired) => true,
+        Some(Refusal::MalformedRecord) => entry.record[2] == 8,
+        _ => false,
+    }
 }
 
 /// An answer by its number, name, word and status, and what it means.
