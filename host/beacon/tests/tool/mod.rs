@@ -3,10 +3,13 @@
 // no test uses all of it
 #![allow(dead_code)]
 
+use std::env;
 use std::ffi::OsString;
-use std::fs;
-use std::path::PathBuf;
-use std::process::{Command, Output, Stdio};
+use std::fs::{self, Permissions};
+use std::os::unix::fs::{MetadataExt, PermissionsExt};
+use std::os::unix::process::CommandExt;
+use std::path::{Path, PathBuf};
+use std::process::{self, Command, Output, Stdio};
 
 use milebeacon::{Envelope, EscrowNumber, Submission, ENTRY_BYTES, RECORD_BYTES};
 
@@ -29,8 +32,11 @@ pub fn beacon_in_little_room(words: &[&str]) -> Command {
 
 /// The words before its arguments.
 fn tool_line() -> Vec<OsString> {
-    let tool = env!("CARGO_BIN_EXE_beacon").into();
-    let runner = std::env::var_os("MILEBEACON_RUNNER");
+    tool_line_of(env!("CARGO_BIN_EXE_beacon").into())
+}
+
+fn tool_line_of(tool: OsString) -> Vec<OsString> {
+    let runner = env::var_os("MILEBEACON_RUNNER");
     runner.into_iter().chain([tool]).collect()
 }
 
@@ -69,6 +75,75 @@ pub fn file(name: &str) -> String {
     let _ = fs::remove_file(&path);
     path.to_str().expect("a readable path").to_owned()
 }
+
+/// A folder of the test's own, with nothing in it.
+pub fn folder(name: &str) -> PathBuf {
+    let path = PathBuf::from(env!("CARGO_TARGET_TMPDIR")).join(name);
+    let _ = fs::remove_dir_all(&path);
+    fs::create_dir(&path).expect("made");
+    path
+}
+
+/// The names of the files in a folder.
+pub fn names(folder: &Path) -> Vec<String> {
+    let entries = fs::read_dir(folder).expect("a folder");
+    let names = entries.map(|entry| entry.expect("an entry").file_name());
+    let mut names: Vec<String> = names
+        .map(|name| name.into_string().expect("text"))
+        .collect();
+    names.sort();
+    names
+}
+
+/// The tool as a user without privileges runs it, to whom permissions apply, and a folder for it.
+/// Where the tests are run by root it is another user.
+pub struct Unprivileged {
+    pub folder: PathBuf,
+    tool: PathBuf,
+}
+
+impl Unprivileged {
+    /// It is in a place where anybody can go, and the tool is brought along.
+    pub fn new(name: &str) -> Unprivileged {
+        let place = env::temp_dir().join(format!("beacon-{}-{name}", process::id()));
+        let (folder, tool) = (place.join("folder"), place.join("beacon"));
+        fs::create_dir_all(&folder).expect("made");
+        // by another process: one that is open for writing cannot be run
+        let mut copy = Command::new("cp");
+        let copied = copy.args([env!("CARGO_BIN_EXE_beacon").as_ref(), tool.as_os_str()]);
+        assert!(copied.status().expect("cp runs").success());
+        for path in [&place, &tool] {
+            fs::set_permissions(path, Permissions::from_mode(0o755)).expect("set");
+        }
+        Unprivileged { folder, tool }
+    }
+
+    /// Whether it is another user than the one who runs the tests.
+    pub fn is_another(&self) -> bool {
+        fs::metadata(&self.folder).expect("a folder").uid() == 0
+    }
+
+    pub fn beacon(&self, words: &[&str]) -> Command {
+        let mut line = tool_line_of(self.tool.clone().into());
+        let mut command = Command::new(line.remove(0));
+        command.args(line).args(words).stdin(Stdio::null());
+        if self.is_another() {
+            command.uid(NOBODY).gid(NOBODY);
+        }
+        command
+    }
+}
+
+impl Drop for Unprivileged {
+    fn drop(&mut self) {
+        let place = self.folder.parent().expect("it is within another");
+        let _ = fs::set_permissions(&self.folder, Permissions::from_mode(0o755));
+        let _ = fs::remove_dir_all(place);
+    }
+}
+
+/// A user who owns nothing.
+const NOBODY: u32 = 65_534;
 
 /// P1 to P3: grant, open, and the same open again.
 pub fn first_records(name: &str) -> String {
