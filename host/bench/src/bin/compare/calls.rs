@@ -11,6 +11,8 @@ pub struct Call {
     pub name: &'static str,
     pub start: Tables<Vec<u64>>,
     pub bytes: Vec<u8>,
+    /// The same in the old form of replies, for an archive that knows no other.
+    pub old_form: Vec<u8>,
     /// The number that it must answer.
     pub number: u64,
 }
@@ -27,14 +29,23 @@ pub fn on_full_tables(ids: Ids) -> Vec<Call> {
         name,
         start: ledger.clone().into_tables(),
         bytes: bytes.to_vec(),
+        old_form: bytes.to_vec(),
         number,
+    };
+    let accept = accept(&full);
+    let old_accept = Submission {
+        flags: Submission::SIGNED,
+        ..accept
     };
     vec![
         call("is it sound", &full, &[], 3),
         call("transfer", &full, &records(&[transfer(ids)])[0], 0),
         call("open", &full, &open, 0),
         call("release", &held, &release, 0),
-        call("accept", &full, &records(&[accept(&full)])[0], 0),
+        Call {
+            old_form: records(&[old_accept])[0].to_vec(),
+            ..call("accept", &full, &records(&[accept])[0], 0)
+        },
     ]
 }
 

@@ -10,6 +10,9 @@ use libloading::Library;
 use milebeacon::ffi::Answer;
 use milebeacon::{JournalRow, Tables};
 
+/// The entry point that came when accepts and disputes became one operation.
+const CONVERT: &[u8] = b"milebeacon_convert\0";
+
 /// `milebeacon_submit`: the five tables and the record, each as its pointer and its number of
 /// elements.
 type Submit = unsafe extern "C" fn(
@@ -42,6 +45,7 @@ struct Lent {
 pub struct Core {
     submit: Submit,
     seen: Option<Seen>,
+    knows_replies: bool,
     /// The code stays loaded for as long as the entry point can be called.
     _library: Library,
 }
@@ -56,16 +60,23 @@ impl Core {
             Library::new(path).and_then(|library| {
                 let submit = *library.get::<Submit>(b"milebeacon_submit\0")?;
                 let seen = library.get::<Seen>(b"envelope_seen\0").ok().map(|it| *it);
-                Ok((submit, seen, library))
+                let knows_replies = library.get::<*const ()>(CONVERT).is_ok();
+                Ok((submit, seen, knows_replies, library))
             })
         };
-        let (submit, seen, library) =
+        let (submit, seen, knows_replies, library) =
             loaded.map_err(|error| format!("cannot load {path}: {error}"))?;
         Ok(Core {
             submit,
             seen,
+            knows_replies,
             _library: library,
         })
+    }
+
+    /// Whether accepts and disputes are one operation. An archive of before takes them as two.
+    pub fn knows_replies(&self) -> bool {
+        self.knows_replies
     }
 
     /// Whether the search can be called by itself.

@@ -80,7 +80,7 @@ impl<'a> Shared<'a> {
     fn agreed(call: &'a Call, placements: &[Placement]) -> Result<Shared<'a>, String> {
         let outcome = |core: &Core| {
             let mut tables = call.start.clone();
-            (core.submit(tables.as_mut(), &call.bytes), tables)
+            (core.submit(tables.as_mut(), bytes(call, core)), tables)
         };
         let (answer, end) = outcome(&placements[0][BEFORE]);
         if answer.number != call.number {
@@ -106,7 +106,7 @@ impl<'a> Shared<'a> {
     fn time(&mut self, core: &Core) -> f64 {
         let mut answer = None;
         let time = timed(1, || {
-            answer = Some(core.submit(self.tables.as_mut(), &self.call.bytes));
+            answer = Some(core.submit(self.tables.as_mut(), bytes(self.call, core)));
         });
         assert!(answer == Some(self.answer), "the same call, another answer");
         let tables = parts(self.tables.as_mut());
@@ -114,6 +114,15 @@ impl<'a> Shared<'a> {
             tables[table][place] = word;
         }
         time
+    }
+}
+
+/// The call's bytes in the form that the archive knows.
+fn bytes<'a>(call: &'a Call, core: &Core) -> &'a [u8] {
+    if core.knows_replies() {
+        &call.bytes
+    } else {
+        &call.old_form
     }
 }
 
