@@ -7,3 +7,4 @@ pub mod Journals
 pub mod Forms
 pub mod Settles
 pub mod Replays
+pub mod Calls

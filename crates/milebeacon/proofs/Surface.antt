@@ -6,9 +6,10 @@ use denote.Ref.{now}
 use Rattle.rules.specs.Ledger.{first-edition}
 use Rattle.rules.specs.Report.{reportOf}
 use Rattle.rules.specs.Results.{Ran, exits, Result, by-fresh, by-submit, by-replay, by-report, by-lookup, wallet-standing, escrow-place, receipt-place, by-read, by-write, by-status, by-convert, Meets}
-use Rattle.rules.specs.Runs.{Surface, Calls-are-listed, Calls-decide, Runs-add-up, Runs-refuse-retries, Retries-change-nothing, Runs-recordings-agree}
+use Rattle.rules.specs.Runs.{Surface, Calls-are-listed, Calls-decide, Runs-add-up, Runs-refuse-retries, Retries-change-nothing, Runs-recordings-agree, Conversions-replay}
 use Rattle.rules.proofs.Runs.{calls-are-listed, calls-decide, runs-add-up, runs-refuse-retries, retries-change-nothing}
 use Rattle.rules.proofs.Recorded.{runs-recordings-agree}
+use Rattle.convert.proofs.Calls.{conversions-replay}
 use Rattle.ledger.proofs.Surface.{five, two}
 use Rattle.milebeacon.proofs.milebeacon_fresh.Kinds as fresh-kinds
 use Rattle.milebeacon.proofs.milebeacon_fresh.Reads as fresh-reads
@@ -107,3 +108,6 @@ the-retry-changes-nothing = retries-change-nothing surface
 
 pub recordings-agree : Runs-recordings-agree surface
 recordings-agree = runs-recordings-agree surface
+
+pub conversions : Conversions-replay surface
+conversions = conversions-replay surface

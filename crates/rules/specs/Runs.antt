@@ -12,12 +12,13 @@ use Rattle.rules.specs.Ledger.{Edition, Ledger, Sized, setHeader, setWal
 use Rattle.rules.specs.Record.{readOf}
 use Rattle.rules.specs.Sound.{sound}
 use Rattle.rules.specs.Recording.{Entry, asEntry, entriesOf, recordsOf, recordingOf}
-use Rattle.rules.specs.Replay.{answer, verdict, recordedFrom}
+use Rattle.rules.specs.Replay.{answer, verdict, verdictOf, replay, recordedFrom}
 use Rattle.rules.specs.Report.{hasNamed}
 use Rattle.rules.specs.Submit.{submit}
 use Rattle.rules.specs.History.{Event, submitted, begun, Said, unbroken}
 use Rattle.rules.specs.Promises.{Adds-up, Same-lengths, started}
 use Rattle.rules.specs.Same.{Same-written}
+use Rattle.rules.specs.Converted.{old-rule, Differ-in-replies}
 use Rattle.rules.specs.Results.{Looked, wallet-standing, escrow-place, escrow-row, receipt-place, receipt-row, Result, by-fresh, by-submit, by-replay, by-report, by-lookup, by-read, by-write, by-status, by-convert, Meets, Listed, DecidedBy}
 use Rattle.rules.specs.declared.Answer.{Answer}
 use Rattle.rules.specs.declared.Verdict.{Verdict}
@@ -182,3 +183,10 @@ module _ (S : Surface) where
       (again : S .Did) (lent left : Ledger) (v : Verdict) → S .shows again ≡ by-replay lent left (recordingOf (recorded (submittedIn run))) v →
       Same-lengths lent L →
       (v ≡ verdict 0 ALL-AGREE (length (recorded (submittedIn run))) (answer 0 0) (answer 0 0)) × Same-written left (lastOf L run)
+
+  -- DOCUMENT 02, REQUEST 7. A recording that a conversion left is replayed, on any tables lent, as the old one is by the old form: the same verdict, and
+  -- tables that differ in the journal's operation word of replies only.
+  abbrev pub Conversions-replay : Type 0
+  Conversions-replay =
+      (d again : S .Did) (old new : List ℕ) (lent left : Ledger) (v : Verdict) → S .shows d ≡ by-convert old new → S .shows again ≡ by-replay lent left new v →
+      (v ≡ verdictOf (replay old-rule lent old .found)) × Differ-in-replies (replay old-rule lent old .left) left
