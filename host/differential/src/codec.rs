@@ -51,7 +51,11 @@ pub fn write(s: &Submission, out: &mut [u8], tally: &mut Tally) -> Result<u64, D
 
 /// Fields by chance, of which a part is well formed.
 pub fn fields(dice: &mut Dice) -> Submission {
-    let op = dice.below(14) as u8;
+    // replies have most ways to be malformed by their flags
+    let op = match dice.below(4) {
+        0 => dice.pick(&[7, 7, 8]),
+        _ => dice.below(14) as u8,
+    };
     let time = |dice: &mut Dice| match dice.below(12) {
         0 => dice.edge(),
         1 => (1 << 48) - 1,
@@ -83,7 +87,8 @@ pub fn fields(dice: &mut Dice) -> Submission {
     s
 }
 
-/// Sets to 0 what the operation does not use, as the table of operations has it.
+/// Sets to 0 what the operation does not use, as the table of operations has it; what was an operation
+/// too.
 fn clear_unused(s: &mut Submission) {
     let (bits, amount, until, link, hash) = match s.op {
         1 => (0b0011, true, false, false, false),
@@ -91,8 +96,8 @@ fn clear_unused(s: &mut Submission) {
         3 => (0b0001, true, true, false, false),
         4 | 5 => (0b0011, false, false, false, false),
         6 => (0b0101, false, true, true, true),
-        7 => (0b0001, false, false, false, false),
-        8 => (0b1001, false, false, false, false),
+        // with both of its bits a reply is malformed, and so is an 8 with any, by nothing else
+        7 | 8 => (0b1101, false, false, false, false),
         9 => {
             *s = Submission {
                 op: s.op,
@@ -128,6 +133,8 @@ pub fn round(dice: &mut Dice, tally: &mut Tally) -> Result<(), Difference> {
     let mut out = [dice.word() as u8; RECORD_BYTES];
     if write(&s, &mut out, tally)? == 0 {
         same("fields read back", read(&out, tally)?, (0, s))?;
+    } else {
+        read(&encode(&s), tally)?;
     }
     let bytes = damaged(encode(&s).to_vec(), dice.below(16) as u8, dice);
     let (number, fields) = read(&bytes, tally)?;

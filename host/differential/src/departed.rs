@@ -7,7 +7,7 @@
 
 use std::collections::BTreeSet;
 
-use milebeacon::{Ledger, Operation};
+use milebeacon::{Ledger, Operation, Reply};
 
 use crate::left::{Left, Recipients};
 use crate::reached::{holding, Reached};
@@ -95,23 +95,29 @@ struct Done<'a> {
 }
 
 impl Done<'_> {
+    /// How the operation is told: a reply by what it replies.
+    fn name(&self) -> &'static str {
+        match self.operation {
+            Operation::Reply => Reply::from_flags(self.record[3]).name(),
+            operation => operation.name(),
+        }
+    }
+
     fn settled(&self, after: &Ledger<&[u64]>) -> Vec<String> {
-        let operation = self.operation;
+        let name = self.name();
         let mut all = Vec::new();
         if self.closed.contains(&word(self.record, 1)) {
-            all.push(format!("{operation} settled, signed by a closed wallet"));
-            if matches!(operation, Operation::Accept | Operation::Dispute) {
+            all.push(format!("{name} settled, signed by a closed wallet"));
+            if self.operation == Operation::Reply {
                 all.push(format!(
                     "reply settled, signed by a closed wallet, on {}",
                     self.began
                 ));
             }
         }
-        let by_number = matches!(operation.number(), 4 | 5 | 7 | 8);
+        let by_number = matches!(self.operation.number(), 4 | 5 | 7);
         if by_number && self.closed.contains(&word(self.record, 5)) {
-            all.push(format!(
-                "{operation} settled, its number a closed wallet's id"
-            ));
+            all.push(format!("{name} settled, its number a closed wallet's id"));
         }
         let made = after.wallets().count() > self.ledger.wallets().count();
         if made && !self.closed.is_empty() {
@@ -129,9 +135,9 @@ impl Done<'_> {
             if let Some(state) = is.state().filter(|_| was.state() != is.state()) {
                 for (party, id) in [("to", is.to()), ("from", is.from())] {
                     if self.closed.contains(&id) {
-                        let operation = self.operation;
+                        let name = self.name();
                         all.insert(format!(
-                            "{operation}: an escrow {party} a closed wallet was {state}"
+                            "{name}: an escrow {party} a closed wallet was {state}"
                         ));
                     }
                 }

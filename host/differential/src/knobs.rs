@@ -247,37 +247,6 @@ impl Step {
             ..Submission::default()
         }
     }
-
-    pub(crate) fn flag_bits(&self, view: &View<'_>, op: u8, target: u64) -> u8 {
-        let odd = self.pick % 2 == 1;
-        let natural = match op {
-            1 | 11 | 12 => 0b0011,
-            6 if odd => 0b0101,
-            8 => 0b1001,
-            10 => {
-                let frozen = if target == 0 {
-                    view.system_frozen()
-                } else {
-                    view.wallet_frozen(target)
-                };
-                if frozen {
-                    0b0011
-                } else {
-                    0b0111
-                }
-            }
-            _ => 0b0001,
-        };
-        match self.flags {
-            1 => natural & !0b0001,
-            2 | 3 => natural ^ 0b0010,
-            4 => natural ^ 0b0100,
-            5 => natural ^ 0b1000,
-            6 => natural | 0b0001_0000,
-            7 => natural | 0b1000_0000,
-            _ => natural,
-        }
-    }
 }
 
 /// A party with no wallet, if `from` or one soon after it is.

@@ -26,6 +26,7 @@ pub mod daily;
 pub mod damage;
 pub mod departed;
 pub mod dice;
+mod flags;
 pub mod history;
 mod knobs;
 pub mod left;

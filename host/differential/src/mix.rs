@@ -131,7 +131,7 @@ fn settling(round: u64, dice: &mut Dice) -> Vec<History> {
     let mut histories: Vec<History> = (0..2).map(|_| History::roll(dice, 120)).collect();
     for begin in [Begin::Fresh, Begin::Fresh, Begin::Fresh, Begin::HalfFull] {
         let sizes = roomy_sizes(dice);
-        let history = History::settling(begin, sizes, dice, 250);
+        let history = History::settling(begin, sizes, dice, 260);
         histories.push(with_newcomers(history, dice));
     }
     if round % 4 == 0 {

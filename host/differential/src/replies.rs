@@ -1,13 +1,15 @@
-//! Which receipt a reply is about, and when replies and sweeps come: within a receipt's window, at
-//! its end, or after it.
+//! Which receipt a reply is about, which checks refuse it, and when replies and sweeps come: within a
+//! receipt's window, at its end, or after it.
 
 use crate::dice::Dice;
 use crate::parties::CLOSED as CLOSED_WALLET;
 use crate::step::{Step, DAY_MS};
 use crate::view::{ReceiptSeen, View};
 
-const ACCEPT: u8 = 6;
-const DISPUTE: u8 = 7;
+/// The kinds of steps that reply to a claim: by bit 2 of one operation, and as the other form has it.
+pub(crate) const ACCEPT: u8 = 6;
+pub(crate) const DISPUTE: u8 = 7;
+pub(crate) const OTHER_FORM: u8 = 14;
 const SWEEP: u8 = 8;
 
 /// The clock's knobs for the last moment of a receipt's window, for the one after it, and for one
@@ -16,12 +18,16 @@ const AT: u8 = 11;
 const JUST_AFTER: u8 = 12;
 const LONG_AFTER: u8 = 19;
 
-/// The knob of the target for a receipt that is closed.
+/// The knobs of the target for a receipt that is not there, and for one that is closed.
+const MISSING: u8 = 3;
 const CLOSED: u8 = 7;
 /// The knob of the signer for a party with no wallet.
 const ANOTHER: u8 = 3;
-/// The knob of the flags for another bit 3, that is, for a dispute without a reason.
-const NO_REASON: u8 = 5;
+/// The knobs of the flags for a bit that no reply uses, for another bit 3, that is, for a dispute
+/// without a reason or for an accept with one, and for any bits.
+const OTHER_BIT: u8 = 2;
+pub(crate) const OTHER_REASON: u8 = 5;
+const ANY_BITS: u8 = 8;
 
 impl Step {
     /// The moment that a knob of the clock asks for, if it goes by a receipt's deadline.
@@ -78,8 +84,30 @@ impl Step {
         match dice.below(8) {
             0 => self.signer = ANOTHER,
             1 => self.target = CLOSED,
-            2 | 3 if self.op == DISPUTE => self.flags = NO_REASON,
+            2 | 3 if self.op == DISPUTE => self.flags = OTHER_REASON,
             _ => {}
+        }
+        self
+    }
+
+    /// One reply in so many is refused by two checks at once, of which the first answers, or has other
+    /// flags. An accept is asked for no reason, and is malformed with one.
+    pub(crate) fn at_two_checks(mut self, dice: &mut Dice, once_in: u64) -> Step {
+        if !matches!(self.op, ACCEPT | DISPUTE | OTHER_FORM) || !dice.once_in(once_in) {
+            return self;
+        }
+        (self.signer, self.flags) = (0, 0);
+        (self.tick, self.target) = (dice.pick(&[0, 0, 1]), 0);
+        let late = dice.pick(&[JUST_AFTER, JUST_AFTER, LONG_AFTER]);
+        match dice.below(8) {
+            0 => (self.signer, self.target) = (ANOTHER, CLOSED),
+            1 => (self.signer, self.tick) = (ANOTHER, late),
+            2 => (self.target, self.tick) = (CLOSED, late),
+            3 => (self.target, self.flags) = (MISSING, OTHER_REASON),
+            4 => (self.signer, self.flags) = (ANOTHER, OTHER_REASON),
+            5 => (self.target, self.flags) = (CLOSED, OTHER_REASON),
+            6 => (self.tick, self.flags) = (late, OTHER_REASON),
+            _ => self.flags = dice.pick(&[OTHER_REASON, OTHER_BIT, ANY_BITS]),
         }
         self
     }

@@ -193,8 +193,8 @@ fn ids(dice: &mut Dice, count: usize) -> Vec<u64> {
 
 fn amount(dice: &mut Dice, escrows: usize) -> u64 {
     match dice.below(8) {
-        0 => 1,
-        1 if escrows <= 100 => MOST_AMOUNT,
+        0 | 1 => 1,
+        2 if escrows <= 100 => MOST_AMOUNT,
         _ => dice.between(1, 1_000_000),
     }
 }
@@ -279,7 +279,8 @@ fn receipt(dice: &mut Dice, world: &World, escrows: usize, clock: u64) -> [u64; 
 }
 
 fn entry(dice: &mut Dice, ids: &[u64], clock: u64) -> [u64; 8] {
-    let operation = dice.pick(&[2, 2, 2, 2, 3, 3, 1, 7, 9, 11, 12, 0, u64::MAX]);
+    // 8 as old disputes have it
+    let operation = dice.pick(&[2, 2, 2, 2, 3, 3, 1, 7, 8, 9, 11, 12, 0, u64::MAX]);
     let amount = match operation {
         2 | 3 if dice.once_in(8) => dice.pick(&[900_000_000, MOST_AMOUNT]),
         2 | 3 => dice.pick(&[1, 50, 4_000]),

@@ -6,10 +6,12 @@
 //! example of a difference shows what matters in it: the knobs that are not 0.
 
 use milebeacon::Submission;
+use second::Form;
 
 use crate::dice::Dice;
 use crate::parties::OWN_SIGNER;
 use crate::record::{damaged, encode};
+use crate::replies::{ACCEPT, DISPUTE, OTHER_FORM};
 use crate::twin::World;
 use crate::view::View;
 
@@ -25,8 +27,9 @@ pub const MOST_GRANTED: u64 = 1_000_000_000_000_000_000;
 /// One step.
 #[derive(Clone, Copy, Debug, Default, PartialEq, Eq)]
 pub struct Step {
-    /// 0 to 11: the operations 1 to 12. 12 submits the last record again, 13 does so with a new
-    /// clock.
+    /// 0 to 11: the operations 1 to 12, of which 6 and 7 are the two replies to a claim, an accept
+    /// and a dispute. 12 submits the last record again, 13 does so with a new clock. 14 is a reply
+    /// as the other form of a record has it, which is malformed.
     pub op: u8,
     /// How far the clock moves, or to which row's moment.
     pub tick: u8,
@@ -52,6 +55,11 @@ pub struct Step {
     pub pick: u16,
 }
 
+/// How many kinds of steps there are.
+const KINDS: u8 = 15;
+const AGAIN: u8 = 12;
+const AGAIN_LATER: u8 = 13;
+
 /// How many steps the knob of the clock has; the others have fewer than 16.
 const TICKS: u64 = 21;
 const KNOB: u64 = 16;
@@ -60,7 +68,7 @@ impl Step {
     /// A step by chance. `wild` out of 16 knobs are not plain.
     pub fn roll(dice: &mut Dice, wild: u64) -> Step {
         let often = [0, 1, 1, 2, 2, 2, 2, 5, 5, 5, 5, 6, 6];
-        let seldom = [3, 4, 7, 8, 8, 9, 10, 11, 12, 13];
+        let seldom = [3, 4, 7, 7, 8, 8, 9, 10, 11, 12, 13, 14];
         let op = if dice.once_in(3) {
             dice.pick(&seldom)
         } else {
@@ -69,6 +77,7 @@ impl Step {
         Step::of(op, dice, wild)
             .at_the_end_of_a_hold(dice)
             .at_the_end_of_a_window(dice, 3)
+            .at_two_checks(dice, 4)
             .at_a_closed_wallet(dice, 8)
     }
 
@@ -78,10 +87,11 @@ impl Step {
         let ops = [
             0, 0, 1, 1, 1, 2, 2, 2, 2, 3, 4, 5, 5, 5, 5, 5, 6, 6, 6, 7, 7, 8, 10,
         ];
-        let op = match dice.below(64) {
-            0 => 9,
-            1 => 12,
-            2 => 13,
+        let op = match dice.below(128) {
+            0 | 1 => 9,
+            2 | 3 => AGAIN,
+            4 | 5 => AGAIN_LATER,
+            6 => OTHER_FORM,
             _ => dice.pick(&ops),
         };
         let wild = dice.pick(&[0, 0, 0, 1]);
@@ -90,11 +100,12 @@ impl Step {
             step.tick = dice.between(1, 4) as u8;
         }
         // One dispute in six gives no reason.
-        if op == 7 && dice.once_in(6) {
+        if op == DISPUTE && dice.once_in(6) {
             step.flags = 5;
         }
         step.at_the_end_of_a_hold(dice)
             .at_the_end_of_a_window(dice, 5)
+            .at_two_checks(dice, 32)
             .at_a_closed_wallet(dice, 24)
     }
 
@@ -173,16 +184,21 @@ impl Step {
 
     /// The bytes to submit. `last` is the record before it.
     pub fn record(&self, world: &World, last: &[u8]) -> Vec<u8> {
-        let bytes = match self.op % 14 {
-            12 => last.to_vec(),
-            13 => {
+        self.record_in(Form::New, world, last)
+    }
+
+    /// The same in either form, in which replies differ and nothing else.
+    pub fn record_in(&self, form: Form, world: &World, last: &[u8]) -> Vec<u8> {
+        let bytes = match self.kind() {
+            AGAIN => last.to_vec(),
+            AGAIN_LATER => {
                 let mut again = last.to_vec();
                 if let Some(now) = again.get_mut(4..12) {
                     now.copy_from_slice(&View::new(world).clock().to_le_bytes());
                 }
                 again
             }
-            _ => encode(&self.submission(world)).to_vec(),
+            _ => encode(&self.submission(form, world)).to_vec(),
         };
         damaged(bytes, self.damage, &mut Dice::new(self.pick()))
     }
@@ -191,11 +207,18 @@ impl Step {
         u64::from(self.pick)
     }
 
+    pub(crate) fn kind(&self) -> u8 {
+        self.op % KINDS
+    }
+
     /// The fields; they may well be malformed.
-    pub fn submission(&self, world: &World) -> Submission {
+    fn submission(&self, form: Form, world: &World) -> Submission {
         let view = View::new(world);
         let now = self.now(&view);
-        let op = self.op % 14 + 1;
+        let op = match self.kind() {
+            ACCEPT | DISPUTE | OTHER_FORM => self.reply(form).0,
+            kind => kind + 1,
+        };
         if op == 9 {
             return self.sweep(&view, now);
         }
@@ -241,7 +264,7 @@ impl Step {
         };
         Submission {
             op,
-            flags: self.flag_bits(&view, op, target),
+            flags: self.flag_bits(form, &view, op, target),
             now,
             signer,
             nonce,

@@ -19,7 +19,8 @@ pub const LAST_ANSWER: usize = 43;
 pub const OPERATIONS: usize = 12;
 const SWEEP: usize = 9;
 
-/// Counts by operation and answer. Row 0 is for records whose operation byte is none.
+/// Counts by operation and answer. Row 0 is for records whose operation byte is none. 8 is none
+/// either, but was one; so it has a row of its own here, which the report's grid has not.
 #[derive(Clone, Debug)]
 pub struct Tally {
     counts: [[u64; LAST_ANSWER + 1]; OPERATIONS + 1],
@@ -68,13 +69,14 @@ impl Default for Tally {
     }
 }
 
-/// The operations that an answer is given for, as the rules list them.
+/// The operations that an answer is given for, as the rules list them. Any number but those of an
+/// operation is answered 1, 2 or 3.
 fn operations_of(answer: usize) -> &'static [usize] {
     match answer {
-        0 | 4 => &[1, 2, 3, 4, 5, 6, 7, 8, 9, 10, 11, 12],
+        0 | 4 => &[1, 2, 3, 4, 5, 6, 7, 9, 10, 11, 12],
         1 | 2 | 3 => &[0, 1, 2, 3, 4, 5, 6, 7, 8, 9, 10, 11, 12],
-        5 => &[1, 2, 3, 4, 5, 6, 7, 8, 9],
-        6 | 8 | 9 | 10 | 11 | 40 => &[1, 2, 3, 4, 5, 6, 7, 8, 10, 11, 12],
+        5 => &[1, 2, 3, 4, 5, 6, 7, 9],
+        6 | 8 | 9 | 10 | 11 | 40 => &[1, 2, 3, 4, 5, 6, 7, 10, 11, 12],
         7 => &[1, 10, 11, 12],
         12 => &[1, 2, 3, 9, 11],
         13 | 14 | 17 | 18 | 19 => &[2, 3],
@@ -86,8 +88,7 @@ fn operations_of(answer: usize) -> &'static [usize] {
         22 | 23 | 24 | 25 | 26 | 30 | 31 | 39 => &[6],
         27 | 29 => &[4, 5, 6],
         28 => &[4, 5],
-        32 | 33 | 34 | 41 => &[7, 8],
-        35 => &[8],
+        32 | 33 | 34 | 35 | 41 => &[7],
         36 => &[1],
         37 => &[1, 2, 3],
         _ => &[],

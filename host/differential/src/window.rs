@@ -6,7 +6,7 @@
 
 use std::collections::BTreeSet;
 
-use milebeacon::{EscrowRow, EscrowState, Ledger, ReceiptRow, ReceiptState};
+use milebeacon::{EscrowRow, EscrowState, Ledger, ReceiptRow, ReceiptState, Reply};
 
 use crate::reached::Reached;
 use crate::record::word;
@@ -60,16 +60,15 @@ pub fn none() -> Reached {
 /// nothing unless it is a reply that came to the checks of its receipt, or a sweep that settled.
 pub fn decided(before: &World, record: &[u8], answer: u64, began: Began) -> Vec<String> {
     let ledger = Ledger::over(before.as_ref());
-    let reply = match (record.get(2), answer) {
-        (Some(7), 0 | 33 | 34 | 40 | 41) => "accept",
-        (Some(8), 0 | 33 | 34 | 35 | 40 | 41) => "dispute",
+    match (record.get(2), answer) {
+        (Some(7), 0 | 33 | 34 | 35 | 40 | 41) => {}
         (Some(9), 0) => return swept(&ledger, word(record, 0), word(record, 6)),
         _ => return Vec::new(),
-    };
+    }
     let receipt = row_of(ledger.receipts(), word(record, 5));
     receipt.map_or_else(Vec::new, |receipt| {
-        let asked = Reply {
-            reply,
+        let asked = Asked {
+            reply: Reply::from_flags(record[3]),
             now: word(record, 0),
             has_reason: record[3] & REASON != 0,
             escrow: row_of(ledger.escrows(), receipt.link()),
@@ -82,14 +81,14 @@ pub fn decided(before: &World, record: &[u8], answer: u64, began: Began) -> Vec<
 }
 
 /// The row with this number, which is counted from 1.
-fn row_of<R>(mut rows: impl Iterator<Item = R>, number: u64) -> Option<R> {
+pub(crate) fn row_of<R>(mut rows: impl Iterator<Item = R>, number: u64) -> Option<R> {
     let place = usize::try_from(number.checked_sub(1)?).ok()?;
     rows.nth(place)
 }
 
 /// A reply to a receipt that is there, and what it finds.
-struct Reply<'a> {
-    reply: &'static str,
+struct Asked<'a> {
+    reply: Reply,
     now: u64,
     has_reason: bool,
     receipt: ReceiptRow<'a>,
@@ -118,7 +117,7 @@ impl Moment {
     }
 }
 
-impl Reply<'_> {
+impl Asked<'_> {
     fn decided(&self, answer: u64) -> Vec<String> {
         let moment = Moment::of(self.now, self.receipt.acceptance_deadline());
         let pending = self.receipt.state() == Some(ReceiptState::Pending);
@@ -147,7 +146,7 @@ impl Reply<'_> {
         if moment == Moment::At {
             all.push(format!("{} settled at the deadline", self.reply));
         }
-        if let Some(escrow) = self.escrow.filter(|_| self.reply == "accept") {
+        if let Some(escrow) = self.escrow.filter(|_| self.reply == Reply::Accept) {
             let found = |state| format!("accept found its escrow {state}, on {}", self.began);
             if escrow.state() != Some(EscrowState::Open) {
                 all.push(found("closed"));
@@ -183,7 +182,7 @@ impl Reply<'_> {
                 format!("{reply} refused after the deadline, and not after its escrow's"),
             ),
             (
-                just && reply == "dispute" && !self.has_reason,
+                just && reply == Reply::Dispute && !self.has_reason,
                 "dispute without a reason answered 41 one millisecond after the deadline"
                     .to_owned(),
             ),

@@ -43,7 +43,7 @@ fn knob() -> impl Strategy<Value = u8> {
 
 fn step() -> impl Strategy<Value = Step> {
     let what = (
-        0..14u8,
+        0..15u8,
         any::<u16>(),
         prop_oneof![20 => Just(0), 1 => 0..16u8],
     );

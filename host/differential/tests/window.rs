@@ -4,7 +4,7 @@
 use differential::record::encode;
 use differential::twin::{lent, Began, World};
 use differential::window::{decided, NEVER};
-use milebeacon::{Envelope, Sizes, Submission, Tables};
+use milebeacon::{Envelope, ReceiptNumber, Reply, Sizes, Submission, Tables};
 
 const NOW: u64 = 1_000_000_000;
 /// The deadline of the receipts here, and the one of their escrow.
@@ -12,8 +12,7 @@ const DEADLINE: u64 = NOW + 300_000;
 const ESCROW: u64 = NOW + 400_000;
 const DAY: u64 = 86_400_000;
 
-const ACCEPT: u8 = 7;
-const DISPUTE: u8 = 8;
+const REPLIES: [Reply; 2] = [Reply::Accept, Reply::Dispute];
 
 fn settle(world: &mut World, submission: Submission) {
     let answer = second::submit(&mut lent(world), &encode(&submission));
@@ -54,20 +53,20 @@ fn claimed() -> World {
 }
 
 /// A reply to receipt 1 by this signer, with a reason if it is a dispute.
-fn reply(op: u8, signer: u64, now: u64) -> Submission {
-    Submission {
-        op,
-        flags: if op == DISPUTE { 0b1001 } else { 1 },
-        target: 1,
-        ..Submission::grant(Envelope::new(now, signer, 99), 0, 0)
+fn replied(reply: Reply, signer: u64, now: u64) -> Submission {
+    let envelope = Envelope::new(now, signer, 99);
+    match reply {
+        Reply::Accept => Submission::accept(envelope, ReceiptNumber(1)),
+        Reply::Dispute => Submission::dispute(envelope, ReceiptNumber(1), true),
     }
 }
 
+fn accept(now: u64) -> Submission {
+    replied(Reply::Accept, 7, now)
+}
+
 fn without_a_reason(now: u64) -> Submission {
-    Submission {
-        flags: 1,
-        ..reply(DISPUTE, 7, now)
-    }
+    Submission::dispute(Envelope::new(now, 7, 99), ReceiptNumber(1), false)
 }
 
 /// The answer, and what the submission came to on a ledger that began so.
@@ -88,12 +87,12 @@ fn ways<const N: usize>(answer: u64, ways: [&str; N]) -> (u64, Vec<String>) {
 #[test]
 fn a_reply_is_told_by_the_side_of_the_deadline() {
     let world = claimed();
-    for (op, name) in [(ACCEPT, "accept"), (DISPUTE, "dispute")] {
-        let at = format!("{name} settled at the deadline");
-        let just = format!("{name} refused one millisecond after the deadline");
-        let days = format!("{name} refused two days or more after the deadline");
-        let within = format!("{name} refused after the deadline, and not after its escrow's");
-        let told_at = |now| told(&world, reply(op, 7, now));
+    for reply in REPLIES {
+        let at = format!("{reply} settled at the deadline");
+        let just = format!("{reply} refused one millisecond after the deadline");
+        let days = format!("{reply} refused two days or more after the deadline");
+        let within = format!("{reply} refused after the deadline, and not after its escrow's");
+        let told_at = |now| told(&world, replied(reply, 7, now));
         assert_eq!(told_at(DEADLINE - 1), ways(0, []));
         assert_eq!(told_at(DEADLINE), ways(0, [&at]));
         assert_eq!(told_at(DEADLINE + 1), ways(41, [&just, &within]));
@@ -106,14 +105,14 @@ fn a_reply_is_told_by_the_side_of_the_deadline() {
 
 #[test]
 fn a_closed_receipt_answers_34_on_both_sides() {
-    for (op, name) in [(ACCEPT, "accept"), (DISPUTE, "dispute")] {
+    for reply in REPLIES {
         let mut world = claimed();
-        settle(&mut world, reply(op, 7, DEADLINE - 1));
+        settle(&mut world, replied(reply, 7, DEADLINE - 1));
         let again = |now| Submission {
             nonce: 100,
-            ..reply(op, 7, now)
+            ..replied(reply, 7, now)
         };
-        let way = |when| format!("{name} of a closed receipt answered 34 {when}");
+        let way = |when| format!("{reply} of a closed receipt answered 34 {when}");
         for now in [DEADLINE - 1, DEADLINE] {
             let way = way("within the window");
             assert_eq!(told(&world, again(now)), ways(34, [&way]));
@@ -142,8 +141,8 @@ fn a_dispute_without_a_reason_is_told_by_its_answer() {
 #[test]
 fn another_signer_is_told_on_both_sides_of_a_pending_receipt() {
     let mut world = claimed();
-    for op in [ACCEPT, DISPUTE] {
-        let told_at = |now| told(&world, reply(op, 8, now));
+    for reply in REPLIES {
+        let told_at = |now| told(&world, replied(reply, 8, now));
         let at = "reply by another answered 33 at the deadline";
         let just = "reply by another answered 33 one millisecond after the deadline";
         assert_eq!(told_at(DEADLINE - 1), ways(33, []));
@@ -151,22 +150,22 @@ fn another_signer_is_told_on_both_sides_of_a_pending_receipt() {
         assert_eq!(told_at(DEADLINE + 1), ways(33, [just]));
         assert_eq!(told_at(DEADLINE + 2), ways(33, []));
     }
-    settle(&mut world, reply(ACCEPT, 7, NOW));
+    settle(&mut world, accept(NOW));
     for now in [DEADLINE, DEADLINE + 1] {
-        assert_eq!(told(&world, reply(ACCEPT, 8, now)), ways(33, []));
+        assert_eq!(told(&world, replied(Reply::Accept, 8, now)), ways(33, []));
     }
 }
 
 #[test]
 fn a_full_journal_is_told_on_both_sides() {
     let world = after_a_claim(3, DEADLINE, 0);
-    for (op, name) in [(ACCEPT, "accept"), (DISPUTE, "dispute")] {
-        let told_at = |now| told(&world, reply(op, 7, now));
+    for reply in REPLIES {
+        let told_at = |now| told(&world, replied(reply, 7, now));
         let in_time = "reply on a full journal answered 40 at the deadline";
         assert_eq!(told_at(DEADLINE - 1), ways(40, []));
         assert_eq!(told_at(DEADLINE), ways(40, [in_time]));
-        let just = format!("{name} refused one millisecond after the deadline");
-        let within = format!("{name} refused after the deadline, and not after its escrow's");
+        let just = format!("{reply} refused one millisecond after the deadline");
+        let within = format!("{reply} refused after the deadline, and not after its escrow's");
         let full = "reply on a full journal answered 41 one millisecond after the deadline";
         assert_eq!(told_at(DEADLINE + 1), ways(41, [&just, &within, full]));
     }
@@ -174,12 +173,11 @@ fn a_full_journal_is_told_on_both_sides() {
 
 #[test]
 fn an_accept_is_told_by_the_escrow_that_it_finds() {
-    let accept = |now| reply(ACCEPT, 7, now);
     let both = after_a_claim(9, ESCROW, 0);
     let at = "accept settled at the deadline";
     let released = "accept released its escrow at the deadline of both";
     assert_eq!(told(&both, accept(ESCROW)), ways(0, [at, released]));
-    assert_eq!(told(&both, reply(DISPUTE, 7, ESCROW)).1.len(), 1);
+    assert_eq!(told(&both, replied(Reply::Dispute, 7, ESCROW)).1.len(), 1);
 
     let mut closed = claimed();
     settle(&mut closed, claim(2, DEADLINE, 0));
@@ -218,7 +216,7 @@ fn a_sweep_is_told_by_what_it_closes() {
     assert_eq!(told(&world, sweep(DEADLINE + 1, 1)), ways(0, [closed]));
     assert_eq!(told(&world, sweep(DEADLINE + 1, 0)), ways(12, []));
     assert_eq!(told(&world, sweep(DEADLINE + 2, 1)), ways(0, []));
-    assert_eq!(told(&world, reply(ACCEPT, 7, DEADLINE)).1.len(), 1);
+    assert_eq!(told(&world, accept(DEADLINE)).1.len(), 1);
 
     let mut two = after_a_claim(9, DEADLINE, 1);
     settle(&mut two, claim(2, DEADLINE + 1, 1));

@@ -1,7 +1,7 @@
 //! What each entry of a recording adds to a report, worked out from the tables before and after it:
 //! the core submits the entry, but no program's report is asked.
 
-use milebeacon::{ffi, Entries, EscrowState, Ledger, ReceiptState};
+use milebeacon::{ffi, Entries, EscrowState, Ledger, ReceiptState, Reply};
 
 use crate::record::word;
 use crate::tally::OPERATIONS;
@@ -31,10 +31,13 @@ pub const EXPIRED: usize = 4;
 pub const CELL: usize = 5;
 
 const MALFORMED: usize = 3;
+const NO_REASON: usize = 35;
 const ACCEPTANCE_CLOSED: usize = 41;
 const NOT_EMPTY: usize = 42;
 const WALLET_CLOSED: usize = 43;
-const ACCEPT: usize = 7;
+const REPLY: usize = 7;
+/// The row of what was an operation and is none any more.
+pub const NO_LONGER: usize = 8;
 const SWEEP: usize = 9;
 const CLOSE: usize = 12;
 
@@ -75,10 +78,11 @@ pub fn gains(tables: &World, recording: &[u8]) -> Option<Vec<Gain>> {
     let entries = Entries::new(recording).map(|entry| {
         let answer = ffi::submit(world.as_mut(), entry.record).number as usize;
         let row = match usize::from(entry.record[2]) {
+            NO_LONGER => 0,
             operation @ 1..=OPERATIONS => operation,
             _ => 0,
         };
-        let mut ways: Vec<&str> = told(row, answer).into_iter().collect();
+        let mut ways = told(row, answer, entry.record);
         if usize::from(entry.recorded.number) != answer {
             ways.push("another answer than the recorded one");
         }
@@ -98,19 +102,27 @@ pub fn gains(tables: &World, recording: &[u8]) -> Option<Vec<Gain>> {
     Some(entries.collect())
 }
 
-/// What is told of an entry by its cell alone.
-fn told(row: usize, answer: usize) -> Option<&'static str> {
-    match (row, answer) {
-        (0, MALFORMED) => Some("malformed, in row 0"),
-        (CLOSE, MALFORMED) => Some("a close that is malformed"),
-        (_, MALFORMED) => Some("malformed, in its operation's row"),
-        (ACCEPT, ACCEPTANCE_CLOSED) => Some("an accept after the deadline"),
-        (_, ACCEPTANCE_CLOSED) => Some("a dispute after the deadline"),
-        (CLOSE, 0) => Some("a close that settled"),
-        (CLOSE, WALLET_CLOSED) => Some("a close of a closed wallet"),
-        (_, WALLET_CLOSED) => Some("a record that names a closed wallet"),
-        (_, NOT_EMPTY) => Some("a close of a wallet that is not empty"),
-        _ => None,
+/// What is told of an entry by its cell and its record alone.
+fn told(row: usize, answer: usize, record: &[u8]) -> Vec<&'static str> {
+    let (operation, flags) = (usize::from(record[2]), record[3]);
+    match (row, answer, Reply::from_flags(flags)) {
+        (0, MALFORMED, _) if operation == NO_LONGER => {
+            vec!["malformed, in row 0", "operation 8, in row 0"]
+        }
+        (0, MALFORMED, _) => vec!["malformed, in row 0"],
+        (CLOSE, MALFORMED, _) => vec!["a close that is malformed"],
+        (REPLY, MALFORMED, _) if flags == 0b1101 => vec!["an accept with a reason, in row 7"],
+        (_, MALFORMED, _) => vec!["malformed, in its operation's row"],
+        (REPLY, 0, Reply::Accept) => vec!["an accept that settled"],
+        (REPLY, 0, Reply::Dispute) => vec!["a dispute that settled"],
+        (_, NO_REASON, _) => vec!["a dispute without a reason"],
+        (_, ACCEPTANCE_CLOSED, Reply::Accept) => vec!["an accept after the deadline"],
+        (_, ACCEPTANCE_CLOSED, Reply::Dispute) => vec!["a dispute after the deadline"],
+        (CLOSE, 0, _) => vec!["a close that settled"],
+        (CLOSE, WALLET_CLOSED, _) => vec!["a close of a closed wallet"],
+        (_, WALLET_CLOSED, _) => vec!["a record that names a closed wallet"],
+        (_, NOT_EMPTY, _) => vec!["a close of a wallet that is not empty"],
+        _ => Vec::new(),
     }
 }
 
