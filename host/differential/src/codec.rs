@@ -2,6 +2,7 @@
 
 use milebeacon::{ffi, Submission, RECORD_BYTES};
 
+use crate::coded::{self, Call};
 use crate::dice::Dice;
 use crate::record::{damaged, encode};
 use crate::tally::Tally;
@@ -35,6 +36,8 @@ pub fn read(record: &[u8], tally: &mut Tally) -> Result<(u64, Submission), Diffe
         (core.number, seconds(&core.submission)),
         (number, fields),
     )?;
+    let ways = coded::decided(Call::Read, record, number);
+    tally.coded.count(ways);
     Ok((core.number, core.submission))
 }
 
@@ -46,6 +49,10 @@ pub fn write(s: &Submission, out: &mut [u8], tally: &mut Tally) -> Result<u64, D
     tally.other_calls += 1;
     same("answer of the writer", core, second)?;
     same("bytes written", &out[..], &seconds_out[..])?;
+    if out.len() == RECORD_BYTES {
+        let ways = coded::decided(Call::Written, &encode(s), core);
+        tally.coded.count(ways);
+    }
     Ok(core)
 }
 

@@ -4,11 +4,13 @@ use std::fmt;
 
 use crate::closed;
 use crate::closing;
+use crate::coded;
 use crate::daily;
 use crate::departed;
 use crate::lookups;
 use crate::reached::Reached;
 use crate::replay::counts::Replays;
+use crate::replied;
 use crate::report::counts::Reports;
 use crate::retries;
 use crate::window;
@@ -35,6 +37,10 @@ pub struct Tally {
     pub retries: Reached,
     /// Replies and sweeps that a receipt's acceptance deadline decided.
     pub window: Reached,
+    /// Replies by the checks that decided them, and what is no reply any more.
+    pub replied: Reached,
+    /// The same as the reader and the writer were given it.
+    pub coded: Reached,
     /// Records that name a closed wallet.
     pub closed: Reached,
     /// Closes by what is left in the wallet.
@@ -59,6 +65,8 @@ impl Default for Tally {
             daily: daily::none(),
             retries: retries::none(),
             window: window::none(),
+            replied: replied::none(),
+            coded: coded::none(),
             closed: closed::none(),
             closing: closing::none(),
             departed: departed::none(),
@@ -137,11 +145,13 @@ impl Tally {
     }
 
     /// What submissions and lookups were decided by, each kind with what a run must come to.
-    pub fn ways(&self) -> [&Reached; 7] {
+    pub fn ways(&self) -> [&Reached; 9] {
         [
             &self.daily,
             &self.retries,
             &self.window,
+            &self.replied,
+            &self.coded,
             &self.closed,
             &self.closing,
             &self.departed,
@@ -162,6 +172,8 @@ impl Tally {
         self.daily.add(&other.daily);
         self.retries.add(&other.retries);
         self.window.add(&other.window);
+        self.replied.add(&other.replied);
+        self.coded.add(&other.coded);
         self.closed.add(&other.closed);
         self.closing.add(&other.closing);
         self.departed.add(&other.departed);

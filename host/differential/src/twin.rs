@@ -12,6 +12,7 @@ use crate::closing;
 use crate::daily;
 use crate::departed;
 use crate::replay::verdict;
+use crate::replied;
 use crate::report::twice::{told, Twice};
 use crate::retries;
 use crate::tally::Tally;
@@ -27,8 +28,11 @@ pub const TABLE_NAMES: [&str; 5] = ["header", "wallets", "escrows", "receipts", 
 pub const ROW_WORDS: [usize; 5] = [8, 6, 8, 14, 8];
 
 /// What no submission may come to, though both programs agree on it.
-const NEVER: [&str; 4] = [
+const NEVER: [&str; 7] = [
     window::NEVER,
+    replied::NEVER[0],
+    replied::NEVER[1],
+    replied::NEVER[2],
     closed::NEVER,
     departed::NEVER[0],
     departed::NEVER[1],
@@ -179,10 +183,11 @@ impl Twin {
         let closings = closing::decided(&self.second, record, answer.number, self.began);
         let (before, after) = (&self.second, &self.core);
         let departed = departed::decided(before, after, record, answer.number, self.began);
+        let replied = replied::decided(before, after, record, answer.number);
         let second = guarded(|| second::submit(&mut lent(&mut self.second), record))?;
         let answer = same("answer and word", (answer.number, answer.word), second)?;
         self.compare()?;
-        let mut ways = timed.iter().chain(&named).chain(&departed);
+        let mut ways = timed.iter().chain(&named).chain(&departed).chain(&replied);
         if let Some(way) = ways.find(|way| NEVER.contains(&way.as_str())) {
             return Err(Difference(format!("{way}: this must not be")));
         }
@@ -190,6 +195,7 @@ impl Twin {
         tally.daily.count(paid);
         tally.retries.count(tried);
         tally.window.count(timed);
+        tally.replied.count(replied);
         tally.closed.count(named);
         tally.closing.count(closings);
         tally.departed.count(departed);
