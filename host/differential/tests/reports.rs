@@ -62,6 +62,17 @@ fn expired_first(report: &mut Report, world: &mut World, recording: &[u8]) -> Ad
     }
 }
 
+/// Counts operation 8 in a row of its own still.
+fn eight_in_row_8(report: &mut Report, world: &mut World, recording: &[u8]) -> Added {
+    let added = add_recording(report, &mut lent(world), recording);
+    let counted = told(added).entries as usize;
+    let records = recording.chunks_exact(ENTRY_BYTES).take(counted);
+    let eights = records.filter(|entry| entry[2] == 8).count() as u64;
+    report.grid[0][3] -= eights;
+    report.grid[8][3] = report.grid[8][3].wrapping_add(eights);
+    added
+}
+
 /// Where the wrong report differs from the right one.
 fn difference(month: &Month, wrong: Adder) -> Option<Difference> {
     let made = made(&month.parts).expect("no panic");
@@ -159,6 +170,17 @@ fn a_sweep_that_would_pass_two_takes_five_steps() {
     assert_eq!(steps(&small), [5], "{told}");
     assert!(told.contains("named: Expired"), "{told}");
     assert!(told.contains("named: Released"), "{told}");
+}
+
+#[test]
+fn an_8_that_is_counted_in_row_8_takes_one_step() {
+    let small = smallest(Change::Nothing, &[], eight_in_row_8);
+    let told = small.story();
+    assert_eq!(steps(&small), [1], "{told}");
+    assert_eq!(
+        small.inner.parts[0].replay.history.steps[0].op, 14,
+        "{told}"
+    );
 }
 
 #[test]

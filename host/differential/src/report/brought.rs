@@ -3,9 +3,11 @@
 use milebeacon::ffi;
 use second::{GRID_COLUMNS, GRID_ROWS};
 
-use super::gains::Gain;
+use super::gains::{Gain, NO_LONGER};
 use super::twice::{Named, Twice};
 use crate::dice::Dice;
+
+const MALFORMED: usize = 3;
 
 /// How much room a figure has.
 #[derive(Clone, Copy, Debug, PartialEq, Eq)]
@@ -54,6 +56,9 @@ impl Brought {
             let numbers = credits.iter_mut().chain(grid.iter_mut().flatten());
             // with room for any recording
             numbers.for_each(|number| *number = dice.edge() >> 1);
+            // but in the row that nothing is counted in
+            grid[NO_LONGER].fill_with(|| dice.edge().max(1));
+            grid[NO_LONGER][MALFORMED] = u64::MAX;
         }
         for full in &self.full {
             if let Some(entry) = full.entry(gains) {

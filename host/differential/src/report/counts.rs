@@ -7,82 +7,15 @@ use milebeacon::ffi::Told;
 use milebeacon::Sizes;
 use second::ENTRY_BYTES;
 
-use super::gains::{Gain, CELL, FIGURES};
+use super::gains::{Gain, CELL, FIGURES, NO_LONGER};
 use super::twice::Twice;
+use super::wanted::WANTED;
 use super::{Made, Part};
 use crate::damage::MOST_ROWS;
 use crate::history::Begin;
 use crate::replay::lent::On;
 use crate::replay::recording::Change;
 use crate::twin::{slices, World, ROW_WORDS, TABLE_NAMES};
-
-/// What a run must come to, each at least once, and how it is told.
-const WANTED: [&str; 64] = [
-    "named: granted",
-    "named: transferred",
-    "named: released",
-    "named: refunded",
-    "named: expired",
-    "named: cell",
-    "just 2^64 - 1: granted",
-    "just 2^64 - 1: transferred",
-    "just 2^64 - 1: released",
-    "just 2^64 - 1: refunded",
-    "just 2^64 - 1: expired",
-    "just 2^64 - 1: cell",
-    "would pass at once: granted, cell",
-    "would pass at once: transferred, cell",
-    "would pass at once: released, cell",
-    "would pass at once: refunded, cell",
-    "would pass at once: expired, cell",
-    "would pass at once: released, expired",
-    "would pass at once: released, expired, cell",
-    "full before and not raised",
-    "would not pass beside the one named, just full",
-    "stopped before the first entry",
-    "stopped before the last entry",
-    "stopped in a later recording",
-    "stopped on tables in use",
-    "stopped on the tables of the call before",
-    "had stopped",
-    "had stopped in this month",
-    "had stopped, on tables of a wrong length",
-    "wrong length: header",
-    "wrong length: wallets",
-    "wrong length: escrows",
-    "wrong length: receipts",
-    "wrong length: journal",
-    "counted: malformed, in its operation's row",
-    "counted: malformed, in row 0",
-    "counted: an accept after the deadline",
-    "counted: a dispute after the deadline",
-    "counted: a close that settled",
-    "counted: a close that is malformed",
-    "counted: a close of a wallet that is not empty",
-    "counted: a close of a closed wallet",
-    "counted: a record that names a closed wallet",
-    "counted: released by a release",
-    "counted: released by an accept",
-    "counted: released by a sweep",
-    "counted: several released by one sweep",
-    "counted: several expired by one sweep",
-    "counted: released and expired by one sweep",
-    "counted: two receipts of one sweep on one escrow",
-    "counted: another answer than the recorded one",
-    "all counted",
-    "all counted, after another recording",
-    "all counted, nothing recorded",
-    "all counted, no whole entry",
-    "all counted, refusals only",
-    "all counted, a record changed",
-    "all counted, more entries than a byte can count",
-    "added on tables in use",
-    "added on the tables of the call before",
-    "added on other sizes",
-    "added on the program's sizes",
-    "added on the largest tables",
-    "added what was recorded on a ledger in use",
-];
 
 /// Counts of reports.
 #[derive(Clone, Debug, Default)]
@@ -185,16 +118,17 @@ impl Call<'_> {
             all.extend(self.added());
         }
         match rest.first() {
-            None => all.extend(self.all_counted(told)),
+            None => all.extend(self.all_counted(after, told)),
             Some(next) => all.extend(self.stopped(after, told, next, rest.len())),
         }
         all
     }
 
-    /// The figures that are full after the call.
+    /// The figures that are full after the call, but for the row that nothing is counted in.
     fn filled(&self, after: &Twice, told: Told) -> Vec<String> {
         let sums = (0..CELL).map(|figure| (figure, (0, 0)));
         let cells = after.cells().map(|(cell, _)| (CELL, cell));
+        let cells = cells.filter(|&(_, (row, _))| row != NO_LONGER);
         let full = sums
             .chain(cells)
             .filter(|&(figure, cell)| after.figure(figure, cell) == u64::MAX);
@@ -236,9 +170,10 @@ impl Call<'_> {
         all
     }
 
-    fn all_counted(&self, told: Told) -> Vec<String> {
+    fn all_counted(&self, after: &Twice, told: Told) -> Vec<String> {
         let some = told.entries != 0;
         let change = self.part.replay.change;
+        let unused = after.row_no_longer_used();
         let also = [
             (some && self.earlier > 0, "after another recording"),
             (self.made.bytes.is_empty(), "nothing recorded"),
@@ -246,6 +181,14 @@ impl Call<'_> {
             (some && change == Change::Refusals, "refusals only"),
             (some && change == Change::Record, "a record changed"),
             (told.entries > 255, "more entries than a byte can count"),
+            (
+                some && unused.iter().all(|&count| count == 0),
+                "row 8 all zeros",
+            ),
+            (
+                some && unused[3] == u64::MAX,
+                "row 8 full in column 3 as brought along",
+            ),
         ];
         let also = also.into_iter().filter(|(holds, _)| *holds);
         let mut all = vec!["all counted".to_owned()];

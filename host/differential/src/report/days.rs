@@ -1,12 +1,14 @@
 //! Histories in which credits move in every way that a report counts: grants, transfers, releases,
-//! refunds, accepts, and sweeps that release and expire in one go. Replies that come too late are
-//! among them, a crew that leaves, and what is then refused because its wallet is closed.
+//! refunds, accepts, and sweeps that release and expire in one go. Disputes are among them, replies
+//! that come too late or are malformed, a crew that leaves, and what is then refused because its
+//! wallet is closed.
 
 use milebeacon::Sizes;
 
 use crate::dice::Dice;
 use crate::history::{Begin, History};
 use crate::parties::{departure, CLOSED, WITH_BALANCE};
+use crate::replies::{ACCEPT, DISPUTE, OTHER_FORM, OTHER_REASON};
 use crate::start::roomy_sizes;
 use crate::step::Step;
 
@@ -16,8 +18,6 @@ const OPEN: u8 = 2;
 const RELEASE: u8 = 3;
 const REFUND: u8 = 4;
 const CLAIM: u8 = 5;
-const ACCEPT: u8 = 6;
-const DISPUTE: u8 = 7;
 const SWEEP: u8 = 8;
 const CLOSE: u8 = 11;
 
@@ -71,6 +71,22 @@ fn aside(dice: &mut Dice) -> Step {
     }
 }
 
+/// A claim that is not accepted, as that has a reason, nor disputed, as operation 8 is none and then
+/// the reason is missing, before it is.
+fn disputed(claim: Step, dice: &mut Dice) -> [Step; 5] {
+    let other_reason = |reply, dice: &mut Dice| Step {
+        flags: OTHER_REASON,
+        ..plain(reply, dice)
+    };
+    [
+        claim,
+        other_reason(ACCEPT, dice),
+        plain(OTHER_FORM, dice),
+        other_reason(DISPUTE, dice),
+        plain(DISPUTE, dice),
+    ]
+}
+
 fn day(steps: &mut Vec<Step>, dice: &mut Dice) {
     let long = |dice: &mut Dice| Step {
         until: 3,
@@ -90,6 +106,7 @@ fn day(steps: &mut Vec<Step>, dice: &mut Dice) {
     steps.extend([plain(RELEASE, dice), plain(REFUND, dice)]);
     steps.extend((0..4).map(|_| long(dice)));
     steps.extend([claim(dice, 0), plain(ACCEPT, dice)]);
+    steps.extend(disputed(claim(dice, 0), dice));
     // an odd number asks for auto-accept, and the same number for the same of some escrows
     let auto = claim(dice, 1);
     let other = Step {
@@ -104,12 +121,14 @@ fn day(steps: &mut Vec<Step>, dice: &mut Dice) {
         tick: 12,
         ..plain(late, dice)
     });
-    // and all that is due or so many rows
-    steps.push(Step {
-        tick: 12,
-        amount: dice.pick(&[2, 2, 2, 4, 4, 4, 7, 0]),
-        ..plain(SWEEP, dice)
-    });
+    // and all that is due or so many rows, then what is left
+    for (tick, amount) in [(12, dice.pick(&[2, 2, 2, 4, 4, 4, 7, 0])), (0, 2)] {
+        steps.push(Step {
+            tick,
+            amount,
+            ..plain(SWEEP, dice)
+        });
+    }
     steps.extend(departure(dice));
     // to a closed wallet, of one, of one that has balance; and malformed, as a close has no amount
     for (op, target, amount) in [

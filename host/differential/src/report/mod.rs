@@ -12,6 +12,7 @@ pub mod gains;
 pub mod rounds;
 pub mod shrink;
 pub mod twice;
+mod wanted;
 
 use milebeacon::ffi::Told;
 
@@ -136,6 +137,9 @@ impl Call<'_> {
             }
         };
         let nothing = |number| Told { number, entries: 0 };
+        if after.row_no_longer_used() != self.before.row_no_longer_used() {
+            return Err(Difference("both programs count in row 8".to_owned()));
+        }
         match &self.made.gains {
             None => stays(nothing(1)),
             Some(_) if self.before.has_stopped() => stays(nothing(0)),

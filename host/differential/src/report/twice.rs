@@ -4,7 +4,7 @@ use milebeacon::ffi::{self, Figures, Told};
 use milebeacon::Tables;
 use second::{Added, Figure, Report, GRID_COLUMNS, GRID_ROWS};
 
-use super::gains::{Gain, CELL, FIGURES};
+use super::gains::{Gain, CELL, FIGURES, NO_LONGER};
 use crate::twin::{same, Difference};
 
 /// What a report has named, in the core's words: the figure's place counted from 1, or 0; the row
@@ -107,6 +107,11 @@ impl Twice {
     pub fn figure(&self, figure: usize, (row, column): (usize, usize)) -> u64 {
         let credits = self.credits.get(figure).copied();
         credits.unwrap_or(self.grid[row][column])
+    }
+
+    /// The row that nothing is counted in.
+    pub fn row_no_longer_used(&self) -> &[u64] {
+        &self.grid[NO_LONGER]
     }
 
     /// Every cell with its row and column.
