@@ -5,7 +5,8 @@ use milebeacon::{ffi, Sizes};
 use crate::dice::Dice;
 use crate::lookups;
 use crate::parties::departure;
-use crate::start::{departed, noise, small_sizes, sound, Filled};
+use crate::replies::claimed;
+use crate::start::{departed, noise, roomy_sizes, small_sizes, sound, Filled};
 use crate::step::Step;
 use crate::tally::Tally;
 use crate::twin::{Difference, Twin, World};
@@ -98,6 +99,23 @@ impl History {
         let steps = with_departures(dice, length, 60, Step::settling);
         History {
             begin,
+            sizes,
+            seed: dice.word(),
+            steps,
+        }
+    }
+
+    /// A history in which most steps lead to a reply or are one, of either form, and one record in six
+    /// is damaged.
+    pub fn replies(dice: &mut Dice, length: usize) -> History {
+        let sizes = match dice.below(4) {
+            0 => small_sizes(dice),
+            _ => roomy_sizes(dice),
+        };
+        let mut steps = claimed(dice);
+        steps.extend(with_departures(dice, length, 60, Step::replying));
+        History {
+            begin: dice.pick(&[Begin::Fresh, Begin::Fresh, Begin::Fresh, Begin::Lent]),
             sizes,
             seed: dice.word(),
             steps,

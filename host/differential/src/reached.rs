@@ -9,6 +9,7 @@ use std::fmt;
 pub struct Reached {
     kind: &'static str,
     wanted: Vec<String>,
+    least: u64,
     times: BTreeMap<String, u64>,
 }
 
@@ -24,8 +25,14 @@ impl Reached {
         Reached {
             kind,
             wanted,
+            least: 1,
             times: BTreeMap::new(),
         }
+    }
+
+    /// The same, but each must be come to so many times.
+    pub fn at_least(self, least: u64) -> Reached {
+        Reached { least, ..self }
     }
 
     /// What they are counts of.
@@ -40,10 +47,10 @@ impl Reached {
         }
     }
 
-    /// What was not reached.
+    /// What was not reached, or not often enough.
     pub fn missing(&self) -> Vec<&str> {
         let wanted = self.wanted.iter().map(String::as_str);
-        wanted.filter(|way| self.times(way) == 0).collect()
+        wanted.filter(|way| self.times(way) < self.least).collect()
     }
 
     /// Adds other counts to these.

@@ -29,7 +29,57 @@ const OTHER_BIT: u8 = 2;
 pub(crate) const OTHER_REASON: u8 = 5;
 const ANY_BITS: u8 = 8;
 
+/// What must come before a reply: wallets, escrows, claims.
+pub(crate) fn claimed(dice: &mut Dice) -> Vec<Step> {
+    const GRANT: u8 = 0;
+    const TO_ANOTHER: u8 = 1;
+    let mut plain = |op, target| Step {
+        op,
+        target,
+        pick: dice.word() as u16,
+        ..Step::default()
+    };
+    let ops = [
+        (GRANT, TO_ANOTHER),
+        (GRANT, TO_ANOTHER),
+        (GRANT, TO_ANOTHER),
+    ];
+    let ops = ops.into_iter().chain([(2, 0), (2, 0), (5, 0), (5, 0)]);
+    ops.map(|(op, target)| plain(op, target)).collect()
+}
+
 impl Step {
+    /// A step by chance that leads to a reply or is one; some records are damaged.
+    pub(crate) fn replying(dice: &mut Dice) -> Step {
+        let often = [
+            0, 2, 2, 5, 5, 5, ACCEPT, ACCEPT, DISPUTE, DISPUTE, OTHER_FORM,
+        ];
+        let seldom = [1, 3, 4, SWEEP, 9, 10, 11, 12, 13];
+        let op = if dice.once_in(4) {
+            dice.pick(&seldom)
+        } else {
+            dice.pick(&often)
+        };
+        let wild = dice.pick(&[0, 0, 0, 1]);
+        let mut step = Step::of(op, dice, wild);
+        if !dice.once_in(6) {
+            step.tick = dice.below(4) as u8;
+        }
+        if dice.once_in(6) {
+            step.damage = dice.below(16) as u8;
+        }
+        match dice.below(16) {
+            // unsigned, or with a bit turned
+            0 | 1 => step.flags = dice.between(1, ANY_BITS.into()) as u8,
+            // ends before it begins, or beyond the last time; or by nobody
+            2 => (step.window, step.signer) = dice.pick(&[(7, 0), (8, 0), (9, 0), (0, 4)]),
+            3..=5 if op == DISPUTE => step.flags = OTHER_REASON,
+            _ => {}
+        }
+        step.at_the_end_of_a_window(dice, 12)
+            .at_two_checks(dice, 12)
+    }
+
     /// The moment that a knob of the clock asks for, if it goes by a receipt's deadline.
     pub(crate) fn around_its_window(&self, view: &View<'_>) -> Option<u64> {
         let after = match self.tick {

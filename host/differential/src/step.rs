@@ -141,7 +141,7 @@ impl Step {
     }
 
     /// A step of this operation by chance.
-    fn of(op: u8, dice: &mut Dice, wild: u64) -> Step {
+    pub(crate) fn of(op: u8, dice: &mut Dice, wild: u64) -> Step {
         let mut knob = |bound| {
             if dice.below(16) < wild {
                 dice.below(bound) as u8

@@ -73,7 +73,8 @@ impl Replay {
     /// The recording of these entries with its change.
     pub fn recording(&self, entries: &[Entry]) -> Result<Recording, Difference> {
         let dice = &mut Dice::new(self.seed);
-        Recording::changed(entries, self.history.sizes, self.change, self.place, dice)
+        let (sizes, by) = (self.history.sizes, self.by);
+        Recording::changed(entries, sizes, by, self.change, self.place, dice)
     }
 
     /// The tables before the replay.
@@ -115,7 +116,7 @@ impl Replay {
     }
 
     /// What must be found, where that is known.
-    fn meant(&self, recording: &Recording) -> Option<Found> {
+    pub(crate) fn meant(&self, recording: &Recording) -> Option<Found> {
         match self.on {
             On::Length(_, length) if length.is_wrong() => Some(Found::WrongLength),
             On::Words | On::InUse if self.history.begin == Begin::Fresh => recording.meant,

@@ -1,7 +1,7 @@
 //! Recordings, made from histories, and changed.
 
 use milebeacon::{ffi, Record, Sizes, Tables, RECORD_BYTES};
-use second::{Found, ENTRY_BYTES};
+use second::{Form, Found, ENTRY_BYTES};
 
 use crate::dice::Dice;
 use crate::history::{Begin, History};
@@ -46,13 +46,23 @@ pub enum By {
     Core,
     /// The second program's.
     Second,
+    /// The second program's to records in the old form, which the core has not.
+    SecondInOldForm,
 }
 
 impl By {
+    /// The form of the records.
+    pub fn form(self) -> Form {
+        match self {
+            By::Core | By::Second => Form::New,
+            By::SecondInOldForm => Form::Old,
+        }
+    }
+
     fn fresh(self, world: &mut World) -> Result<u64, Difference> {
         match self {
             By::Core => Ok(ffi::fresh(world.as_mut())),
-            By::Second => guarded(|| second::fresh(&mut lent(world))),
+            By::Second | By::SecondInOldForm => guarded(|| second::fresh(&mut lent(world))),
         }
     }
 
@@ -62,7 +72,9 @@ impl By {
                 let answer = ffi::submit(world.as_mut(), record);
                 Ok((answer.number, answer.word))
             }
-            By::Second => guarded(|| second::submit(&mut lent(world), record)),
+            By::Second | By::SecondInOldForm => {
+                guarded(|| second::submit_in(self.form(), &mut lent(world), record))
+            }
         }
     }
 }
@@ -77,7 +89,7 @@ pub fn recorded(history: &History, by: By) -> Result<Vec<Entry>, Difference> {
     let mut entries = Vec::new();
     let mut last = Vec::new();
     for step in &history.steps {
-        last = step.record(&world, &last);
+        last = step.record_in(by.form(), &world, &last);
         if let Ok(record) = Record::try_from(&last[..]) {
             entries.push(Entry::new(record, by.submit(&mut world, &record)?)?);
         }
@@ -90,12 +102,12 @@ const MANY: usize = 300;
 
 /// Those of the records that a fresh ledger of these sizes refuses, over and over: they leave it
 /// fresh.
-fn refused(entries: &[Entry], sizes: Sizes) -> Result<Vec<Entry>, Difference> {
+fn refused(entries: &[Entry], sizes: Sizes, by: By) -> Result<Vec<Entry>, Difference> {
     let mut world = Tables::zeros(sizes);
     let mut refusals: Vec<Entry> = Vec::new();
     for entry in entries {
-        By::Core.fresh(&mut world)?;
-        let answer = By::Core.submit(&mut world, &entry.record)?;
+        by.fresh(&mut world)?;
+        let answer = by.submit(&mut world, &entry.record)?;
         if answer.0 != 0 {
             refusals.push(Entry::new(entry.record, answer)?);
         }
@@ -149,6 +161,7 @@ impl Recording {
     pub fn changed(
         entries: &[Entry],
         sizes: Sizes,
+        by: By,
         change: Change,
         place: usize,
         dice: &mut Dice,
@@ -157,7 +170,7 @@ impl Recording {
         Ok(match change {
             Change::Nothing => Recording::of(entries),
             Change::Empty => Recording::of(&[]),
-            Change::Refusals => Recording::of(&refused(entries, sizes)?),
+            Change::Refusals => Recording::of(&refused(entries, sizes, by)?),
             Change::Cut(kept) => cut(entries, place, kept),
             Change::Record => damaged(entries, place, dice),
             Change::Number => disagreeing(entries, place, |entry| {
