@@ -10,10 +10,11 @@
 //! - [`twin`] does the calls and compares; a [`history`] is a start and steps. [`shrink`] makes one
 //! in which a difference was found small, by the skeleton for all such things in [`small`].
 //! - [`replay`] records what a history submits and how it is answered, changes the recording, and
-//! replays it on other tables. [`report`] adds such recordings to months' reports.
+//! replays it on other tables. [`report`] adds such recordings to months' reports, and [`convert`]
+//! turns recordings of the old form into today's.
 //! - [`plan`] puts these together into a run of a given length from a given seed, of one [`mix`] or
-//! the other. [`tally`], [`daily`], [`retries`], [`window`], [`closed`], [`closing`], [`departed`]
-//! and [`lookups`] say what the run came to.
+//! the other. [`tally`], [`daily`], [`retries`], [`window`], [`replied`], [`coded`], [`closed`],
+//! [`closing`], [`departed`] and [`lookups`] say what the run came to.
 
 #![forbid(unsafe_code)]
 #![warn(missing_docs)]
@@ -23,6 +24,7 @@ pub mod closed;
 pub mod closing;
 pub mod codec;
 pub mod coded;
+pub mod convert;
 pub mod daily;
 pub mod damage;
 pub mod departed;

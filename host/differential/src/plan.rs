@@ -6,6 +6,7 @@ use milebeacon::Sizes;
 
 use crate::clauses::{Change, BREAKS, LIMITS};
 use crate::codec;
+use crate::convert;
 use crate::damage::{lengthen, scatter};
 use crate::dice::Dice;
 use crate::history::History;
@@ -66,7 +67,8 @@ pub fn run(plan: Plan, report: &mut dyn FnMut(&Tally)) -> Result<Tally, Failure>
     Ok(tally)
 }
 
-/// Everything once: histories, lent ledgers, broken ones, wrong lengths, codec, statuses, replays, reports.
+/// Everything once: histories, lent ledgers, broken ones, wrong lengths, codec, statuses, replays,
+/// reports, conversions.
 fn one_round(plan: Plan, round: u64, tally: &mut Tally) -> Result<(), Failure> {
     let seed = plan.seed.wrapping_mul(0x1_0000_0001).wrapping_add(round);
     let dice = &mut Dice::new(seed);
@@ -100,7 +102,8 @@ fn one_round(plan: Plan, round: u64, tally: &mut Tally) -> Result<(), Failure> {
     }
     codec::statuses(dice, tally).map_err(|d| Failure(d.to_string()))?;
     replay::rounds::round(&histories, round, dice.word(), tally).map_err(Failure)?;
-    report::rounds::round(&histories, round, dice.word(), tally).map_err(Failure)
+    report::rounds::round(&histories, round, dice.word(), tally).map_err(Failure)?;
+    convert::rounds::round(&histories, round, dice.word(), tally).map_err(Failure)
 }
 
 fn play(history: &History, tally: &mut Tally) -> Result<(), Failure> {

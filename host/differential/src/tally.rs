@@ -5,6 +5,7 @@ use std::fmt;
 use crate::closed;
 use crate::closing;
 use crate::coded;
+use crate::convert::counts::Conversions;
 use crate::daily;
 use crate::departed;
 use crate::lookups;
@@ -53,6 +54,8 @@ pub struct Tally {
     pub replays: Replays,
     /// What reports came to. Nor are the entries added to them.
     pub reports: Reports,
+    /// What conversions of old recordings came to. Nor are their entries.
+    pub conversions: Conversions,
 }
 
 impl Default for Tally {
@@ -73,6 +76,7 @@ impl Default for Tally {
             lookups: lookups::none(),
             replays: Replays::default(),
             reports: Reports::default(),
+            conversions: Conversions::default(),
         }
     }
 }
@@ -180,6 +184,7 @@ impl Tally {
         self.lookups.add(&other.lookups);
         self.replays.add(&other.replays);
         self.reports.add(&other.reports);
+        self.conversions.add(&other.conversions);
     }
 }
 
@@ -222,6 +227,7 @@ impl fmt::Display for Tally {
             writeln!(f, "{ways}")?;
         }
         writeln!(f, "{}", self.replays)?;
-        write!(f, "{}", self.reports)
+        writeln!(f, "{}", self.reports)?;
+        write!(f, "{}", self.conversions)
     }
 }

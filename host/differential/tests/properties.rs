@@ -2,6 +2,7 @@
 //! `PROPTEST_CASES` asks for more of them.
 
 use differential::codec;
+use differential::convert;
 use differential::dice::Dice;
 use differential::history::{Begin, History};
 use differential::lookups;
@@ -144,6 +145,18 @@ fn replays() {
     });
 }
 
+#[test]
+fn conversions() {
+    let old = replay().prop_map(|replay| Replay {
+        by: By::SecondInOldForm,
+        ..replay
+    });
+    check(old, |replay| {
+        let came_to = convert::compare_replay(&replay, &mut Tally::default());
+        came_to.map(drop).map_err(failed)
+    });
+}
+
 /// Words that are often small or at a limit.
 fn word() -> impl Strategy<Value = u64> {
     prop_oneof![
@@ -196,23 +209,45 @@ fn any_tables_and_any_records() {
     });
 }
 
-#[test]
-fn any_tables_and_any_recording() {
+/// Entries of fields by chance, of any answers, and any bytes at the end.
+fn recording() -> impl Strategy<Value = Vec<u8>> {
     let answer = (prop_oneof![Just(0), Just(3), any::<u8>()], word());
     let entry = (fields(), answer);
     let tail = prop_oneof![Just(Vec::new()), vec(any::<u8>(), 0..240)];
-    check(
-        (tables(), vec(entry, 0..4), tail),
-        |(world, entries, tail)| {
-            let mut recording = Vec::new();
-            for (fields, (number, word)) in entries {
-                recording.extend(second::entry(&encode(&fields), number, word));
-            }
-            recording.extend(tail);
-            let found = Twin::new(world).replay(&recording);
-            found.map(drop).map_err(failed)
-        },
-    );
+    (vec(entry, 0..4), tail).prop_map(|(entries, tail)| {
+        let mut recording = Vec::new();
+        for (fields, (number, word)) in entries {
+            recording.extend(second::entry(&encode(&fields), number, word));
+        }
+        recording.extend(tail);
+        recording
+    })
+}
+
+#[test]
+fn any_tables_and_any_recording() {
+    check((tables(), recording()), |(world, recording)| {
+        let found = Twin::new(world).replay(&recording);
+        found.map(drop).map_err(failed)
+    });
+}
+
+#[test]
+fn any_tables_and_any_old_recording() {
+    check((tables(), recording()), |(world, old)| {
+        convert::convert_and_replay(&old, &world).map_err(failed)?;
+        let new = convert::convert(&old).map_err(failed)?;
+        prop_assert_eq!(new.len(), old.len());
+        let whole = old.len() / 117 * 117;
+        for place in (0..old.len()).filter(|&place| new[place] != old[place]) {
+            prop_assert!(
+                place < whole && matches!(place % 117, 2 | 3),
+                "byte {}",
+                place
+            );
+        }
+        Ok(())
+    });
 }
 
 #[test]

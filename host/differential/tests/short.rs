@@ -1,7 +1,8 @@
 //! The seeded short runs: no difference, and every answer that the rules list is reached, every way
 //! in which a hold decides at the daily cap, a journal row whether a nonce is used, an acceptance
-//! deadline whether a reply comes in time or a closed wallet what is answered, every finding of a
-//! lookup and of a replay, and all that a report must come to.
+//! deadline whether a reply comes in time, a check of a reply before another or a closed wallet what
+//! is answered, every finding of a lookup and of a replay, and all that a report and the conversion of
+//! an old recording must come to.
 
 use differential::mix::Mix;
 use differential::plan::{run, Plan, SHORT};
@@ -15,6 +16,11 @@ fn finds_no_difference_and_reaches_all(plan: Plan) {
     }
     assert_eq!(tally.replays.missing(), [""; 0], "not reached by replays");
     assert_eq!(tally.reports.missing(), [""; 0], "not reached by reports");
+    assert_eq!(
+        tally.conversions.missing(),
+        [""; 0],
+        "not reached by conversions"
+    );
     assert_eq!(
         tally.forbidden(),
         [],
