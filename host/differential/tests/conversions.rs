@@ -128,7 +128,8 @@ fn replies_that_stay_take_one_step() {
     let told = story(&small);
     assert_eq!(steps(&small), 1, "{told}");
     assert!(told.contains("entry 1: operation 8, flags 1001"), "{told}");
-    assert!(told.contains("becomes operation 7, flags 1001"), "{told}");
+    let after = "by the core operation 7, flags 1001";
+    assert!(told.contains(after), "{told}");
     assert!(
         told.contains("after the conversion a replay finds"),
         "{told}"
@@ -172,7 +173,7 @@ fn old(change: fn(&mut Submission)) -> Submission {
 
 #[test]
 fn each_kind_of_reply_becomes_what_the_paper_says() {
-    let cases: [(fn(&mut Submission), &str, (u8, u8)); 17] = [
+    let cases: [(fn(&mut Submission), &str, (u8, u8)); 18] = [
         (|_| {}, "accept, signed", (7, 0b0101)),
         (|s| s.flags = 0, "accept, unsigned", (7, 0b0100)),
         (|s| s.flags = 5, "7 with bit 2", (0, 0b0101)),
@@ -207,8 +208,9 @@ fn each_kind_of_reply_becomes_what_the_paper_says() {
         ),
         (|s| (s.op, s.flags) = (8, 5), "8 with bit 2", (0, 0b0101)),
         (|s| s.op = 0, "operation 0", (0, 1)),
-        (|s| s.op = 13, "operation 13", (0, 1)),
-        (|s| s.op = 255, "operation above 13", (0, 1)),
+        (|s| s.op = 13, "operation 13, all else a close", (0, 1)),
+        (|s| (s.op, s.amount) = (13, 1), "operation above 12", (0, 1)),
+        (|s| s.op = 255, "operation above 12", (0, 1)),
         (|s| s.op = 4, "release", (4, 1)),
     ];
     for (change, told, meant) in cases {

@@ -7,6 +7,9 @@ use crate::shape::{faults, Fault};
 
 const ACCEPT: u8 = 7;
 const DISPUTE: u8 = 8;
+const CLOSE: u8 = 12;
+/// The first number beyond the last operation's.
+const NEXT: u8 = CLOSE + 1;
 const SIGNED: u8 = 0b0001;
 const BIT_2: u8 = 0b0100;
 const BIT_3: u8 = 0b1000;
@@ -34,8 +37,8 @@ pub fn kind(record: &[u8]) -> String {
         [] => well_formed(operation, flags),
         [Fault::Operation] => match operation {
             0 => "operation 0".to_owned(),
-            13 => "operation 13".to_owned(),
-            _ => "operation above 13".to_owned(),
+            NEXT if is_all_of_a_close(record) => "operation 13, all else a close".to_owned(),
+            _ => "operation above 12".to_owned(),
         },
         [Fault::Flags] => format!("{of} with {}", wrong_bits(operation, flags)),
         [Fault::Mark] => format!("{of} with a wrong mark"),
@@ -45,6 +48,13 @@ pub fn kind(record: &[u8]) -> String {
         [Fault::Window] => format!("{of} that expires before it is issued"),
         _ => "malformed in several ways".to_owned(),
     }
+}
+
+/// Whether only the number keeps it from being one of the last operation.
+fn is_all_of_a_close(record: &[u8]) -> bool {
+    let mut close = record.to_vec();
+    close[2] = CLOSE;
+    faults(Form::Old, &close).is_empty()
 }
 
 fn well_formed(operation: u8, flags: u8) -> String {
@@ -93,8 +103,8 @@ pub const KINDS: [&str; 43] = [
     "caps",
     "close",
     "operation 0",
-    "operation 13",
-    "operation above 13",
+    "operation 13, all else a close",
+    "operation above 12",
     "7 with bit 2",
     "7 with bit 3",
     "7 with bits 2 and 3",

@@ -1,6 +1,6 @@
 //! Bytes by chance, as if they were a recording of the old form.
 
-use milebeacon::{Sizes, RECORD_BYTES};
+use milebeacon::{Sizes, Submission, RECORD_BYTES};
 use second::ENTRY_BYTES;
 
 use super::{convert_and_replay, Conversion};
@@ -45,10 +45,20 @@ fn any(length: usize, dice: &mut Dice) -> Vec<u8> {
 /// A record of fields by chance, of which a part is well formed, and an answer that is seldom its own.
 fn entry(dice: &mut Dice) -> [u8; ENTRY_BYTES] {
     let mut fields = codec::fields(dice);
-    if dice.once_in(2) {
-        fields.op = dice.pick(&[7, 8]);
-        (fields.amount, fields.until, fields.link) = (0, 0, 0);
-        fields.hash = [0; 4];
+    let plain = |op, flags| Submission {
+        op,
+        flags,
+        amount: 0,
+        until: 0,
+        link: 0,
+        hash: [0; 4],
+        ..fields
+    };
+    match dice.below(8) {
+        0..=3 => fields = plain(dice.pick(&[7, 8]), fields.flags),
+        // all of a close but its number
+        4 => fields = plain(13, fields.flags & 0b0011),
+        _ => {}
     }
     let mut record = encode(&fields);
     let kind = dice.pick(&[0, 0, 0, 1, 8, 9, 10, 11, 12]);

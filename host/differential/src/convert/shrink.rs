@@ -1,8 +1,9 @@
 //! Makes a conversion in which a difference was found small.
 
+use milebeacon::ffi;
 use second::ENTRY_BYTES;
 
-use super::{compare_replay, convert};
+use super::compare_replay;
 use crate::replay::recording::By;
 use crate::replay::Replay;
 use crate::small::{shrink_by, Small};
@@ -33,7 +34,7 @@ pub fn shrink_to(
     })
 }
 
-/// The conversion in words: the steps, and each entry before and after it.
+/// The conversion in words: the steps, and each entry before it and as the core makes it.
 pub fn story(small: &Small<Replay>) -> String {
     let Replay {
         history,
@@ -55,14 +56,12 @@ pub fn story(small: &Small<Replay>) -> String {
     let entries = small.inner.entries();
     let old = entries.and_then(|entries| small.inner.recording(&entries));
     let old = old.map_or_else(|_| Vec::new(), |recording| recording.bytes);
-    let new = convert(&old).unwrap_or_default();
-    let mut after = new.chunks(ENTRY_BYTES);
-    for (number, before) in (1..).zip(old.chunks(ENTRY_BYTES)).take(TOLD) {
-        story += &format!("entry {number}: {}", told(before));
-        story += &match after.next() {
-            Some(after) => format!(", becomes {}\n", told(after)),
-            None => "\n".to_owned(),
-        };
+    let mut new = old.clone();
+    ffi::convert(&mut new);
+    let entries = old.chunks(ENTRY_BYTES).zip(new.chunks(ENTRY_BYTES));
+    for (number, (before, after)) in (1..).zip(entries).take(TOLD) {
+        let (before, after) = (told(before), told(after));
+        story += &format!("entry {number}: {before}\n    by the core {after}\n");
     }
     story + &format!("{}\n", small.found)
 }
