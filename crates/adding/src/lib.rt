@@ -1,5 +1,7 @@
 // What a submission that nothing refuses will add to the five figures of the month's report, worked out before it is settled: the tables
 // are read and not changed. An operation adds what its own words and rows say; a sweep is laid out receipt by receipt and escrow by escrow.
+#![tactic(auto)]
+
 ghost use Rattle.std.specs.Prelude.{◌≡◌, ℕ, ◌-◌, ◌<◌, ◌≤◌, ◌^◌, get_or};
 ghost use Rattle.rules.specs.Limits.{ESCROWS};
 ghost use Rattle.rules.specs.Table.{loop};
@@ -23,7 +25,7 @@ use rules::limits::{
 use rules::{Edition, EscrowNumber, ReceiptNumber, Submission};
 
 // How many rows are closed, and the credits of the escrows that end with them.
-#[derive(Drop)]
+#[derive(Clone, Copy)]
 struct Closed {
     rows: u64,
     amount: u64,

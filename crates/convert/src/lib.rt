@@ -1,4 +1,6 @@
 // Turns a recording of the old form into today's, in place: an accept gets bit 2, a dispute becomes operation 7, and what was malformed gets operation 0.
+#![tactic(auto)]
+
 ghost use Rattle.std.specs.Prelude.{◌≡◌, ◌+◌, ◌≤◌, length};
 ghost use Rattle.rules.specs.Limits.{ENTRY-BYTES};
 ghost use Rattle.rules.specs.Convert.{newOperation, newFlags, convertedAt, converted};

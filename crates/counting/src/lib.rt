@@ -1,5 +1,7 @@
 // One entry of a recording, counted in the month's report: the entry is decided first, then what it will add is worked out, and only then is it
 // settled. An entry that would bring a figure or its cell past 2^64 - 1 is neither counted nor applied.
+#![tactic(auto)]
+
 ghost use Rattle.std.specs.Prelude.{◌≡◌, length};
 ghost use Rattle.rules.specs.Ledger.{Ledger, Sized};
 ghost use Rattle.rules.specs.Limits.{RECORD-BYTES};

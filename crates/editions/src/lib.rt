@@ -1,6 +1,8 @@
 // The calls on a ledger of any edition: what holds for every edition is written and proved once. Each call takes the edition by value and asks
 // of it only that it is `Sized`; `ledger` has the calls of each edition that there is, which ask nothing. `step` alone asks something of the
 // tables, and no edition has it as a call.
+#![tactic(auto)]
+
 ghost use Rattle.std.specs.Prelude.{◌≡◌, length, replicate};
 ghost use Rattle.rules.specs.Ledger.{Sized, outcome, lengthsRight, fresh};
 ghost use Rattle.rules.specs.Moments.{tables, lent};

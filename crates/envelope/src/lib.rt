@@ -1,4 +1,6 @@
 // Checks 4 to 11: the clock, the system, the envelope and its nonce.
+#![tactic(auto)]
+
 ghost use Rattle.std.specs.Prelude.{◌≡◌, ◌*◌, ◌≤◌, ◌<◌, get_or, length};
 ghost use Rattle.rules.specs.Limits.{JOURNAL-LEN, ENTRIES, LAST-TIME-MS, LAST-OPERATION};
 ghost use Rattle.rules.specs.Ledger.{Ledger};

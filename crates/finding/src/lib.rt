@@ -1,5 +1,7 @@
 // The wallets that a record names, looked up once in a call. The checks and then the operation are told what was found, and look for none of them
 // again.
+#![tactic(auto)]
+
 ghost use Rattle.std.specs.Prelude.{◌≡◌, ◌*◌, ◌≤◌, ◌<◌, get_or, length};
 ghost use Rattle.rules.specs.Limits.{WALLET-LEN, WALLETS};
 ghost use Rattle.finding.specs.Parties.{lookUpIf, partiesOf};
@@ -8,7 +10,7 @@ use rules::limits::{CAPS, CLAIM, CLOSE, FREEZE, GRANT, OPEN, TRANSFER, WALLETS};
 use rules::{Submission, WalletState};
 
 // The wallets of a record's signer and of its target; `Missing` for one that its operation does not name.
-#[derive(Drop)]
+#[derive(Clone, Copy)]
 pub struct Parties {
     pub signer: WalletState,
     pub target: WalletState,

@@ -1,5 +1,7 @@
 // The month's report so far: the grid of counts by operation and answer, passed and returned by value, and the five figures beside it. Nothing here
 // wraps: what would pass 2^64 - 1 is found before anything is raised.
+#![tactic(auto)]
+
 ghost use Rattle.std.specs.Prelude.{◌≡◌, [], ◌∷◌, ◌++◌, ℕ, ◌+◌, ◌≤◌, ◌<◌, get_or};
 ghost use Rattle.rules.specs.Limits.{GRID-ROWS, ANSWERS, LAST-FIGURE, FIGURES};
 ghost use Rattle.rules.specs.Report.{cell, raised, gridRow, sums, firstPast};

@@ -1,4 +1,6 @@
 // Checks 15 to 43 of the operations on escrows and receipts: release and refund, claim, the reply to a claim.
+#![tactic(auto)]
+
 ghost use Rattle.std.specs.Prelude.{◌≡◌, ◌⊎◌, ◌*◌, ◌≤◌, ◌<◌, get_or, length};
 ghost use Rattle.rules.specs.Limits.{WALLET-LEN, MAX-ESCROWS, MAX-RECEIPTS, LAST-TIME-MS, RELEASE, REFUND, CLAIM, REPLY};
 ghost use Rattle.rules.specs.Limits.{WALLETS, ESCROWS, RECEIPTS, ENTRIES};

@@ -1,5 +1,7 @@
 // An index of the wallets by id, that nobody trusts: a look-up checks what it proposes, and searches where it proposes nothing.
 // Parties choose their ids, so the index is a tree over the bits of an id and no hash table: whatever the ids, a walk ends after STEPS steps.
+#![tactic(auto)]
+
 ghost use Rattle.std.specs.Prelude.{◌≡◌, true, ◌+◌, ◌*◌, ◌≤◌, ◌<◌, length};
 ghost use Rattle.rules.specs.Limits.{WALLET-LEN, MAX-WALLETS};
 ghost use Rattle.rules.specs.Table.{every, distinct};
@@ -68,7 +70,7 @@ fn differ_each(ids: &[u64; NUMBERS], n: usize) -> bool
 }
 
 // Where the walk of an id ends: a free place, with the steps that were left there, or no steps left.
-#[derive(Drop)]
+#[derive(Clone, Copy)]
 struct Seat {
     place: usize,
     left: usize,

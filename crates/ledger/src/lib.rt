@@ -1,5 +1,7 @@
 // The ledger's public calls over the five lent tables: header, wallets, escrows, receipts, journal. Each is the call of `editions`, or for a lookup
 // of `looking`, at the first edition, and asks nothing of its caller.
+#![tactic(auto)]
+
 ghost use Rattle.std.specs.Prelude.{◌≡◌};
 ghost use Rattle.rules.specs.Ledger.{first-edition, outcome, fresh};
 ghost use Rattle.rules.specs.Moments.{lent};

@@ -1,4 +1,6 @@
 // Row lookups: that very row of the caller's table, or an empty part; and the search for a wallet.
+#![tactic(auto)]
+
 ghost use Rattle.std.specs.Prelude.{◌≡◌};
 ghost use Rattle.rules.specs.Ledger.{Sized};
 ghost use Rattle.rules.specs.Lookup.{escrowPlace, escrowPart, receiptPlace, receiptPart, walletState};

@@ -1,5 +1,7 @@
 // Entry points for a host in Rust or C. Each only passes on to the core's own call and repeats its contract, so nothing new is decided here.
 // A slice is a pointer, then a count of elements.
+#![tactic(auto)]
+
 ghost use Rattle.std.specs.Prelude.{◌≡◌};
 ghost use Rattle.rules.specs.Convert.{converted};
 ghost use Rattle.rules.specs.Ledger.{first-edition, outcome, fresh};

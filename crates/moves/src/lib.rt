@@ -1,5 +1,7 @@
 // Small moves on the lent tables: a row added, credits moved, a row closed, an escrow ended, a receipt accepted. Each says what its
 // tables hold afterwards; what it may rely on stands in specs/Needs.antt.
+#![tactic(auto)]
+
 ghost use Rattle.std.specs.Prelude.{◌≡◌, cond, ◌+◌, ◌-◌, ◌*◌, ◌<◌, ◌≤◌, ◌^◌, length, get_or, set, eqb};
 ghost use Rattle.rules.specs.Limits.{WALLET-LEN, ESCROW-STATE, ESCROW-CLOSED-AT, ESCROW-CLOSED-BY, RELEASED};
 ghost use Rattle.rules.specs.Table.{word, putRow};

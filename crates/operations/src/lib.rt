@@ -1,5 +1,7 @@
 // What each operation but the sweep does to the tables, over the small moves. Clock and journal are left to `settling`. What an operation
 // may rely on stands in specs/Needs.antt; it is what no refusal and a sound ledger leave.
+#![tactic(auto)]
+
 ghost use Rattle.std.specs.Prelude.{◌≡◌, ◌-◌};
 ghost use Rattle.rules.specs.Limits.{AUTO-OR-FREEZE};
 ghost use Rattle.rules.specs.Ledger.{Ledger};

@@ -1,4 +1,6 @@
 // Checks 12 to 43 of the operations that bring credits to a wallet: grant, transfer and open.
+#![tactic(auto)]
+
 ghost use Rattle.std.specs.Prelude.{◌≡◌, ◌⊎◌, ◌+◌, ◌*◌, ◌≤◌, ◌<◌, get_or, length};
 ghost use Rattle.rules.specs.Limits.{WALLET-LEN, MAX-WALLETS, LAST-TIME-MS, WALLETS, ENTRIES, GRANT, TRANSFER, OPEN};
 ghost use Rattle.rules.specs.Ledger.{Ledger, Sized, row_of};

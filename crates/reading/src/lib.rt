@@ -2,6 +2,8 @@
 // counts of the signer. No branch of the loop depends on who signed a row or what it did, so that no journal makes it slower; what a row
 // adds is chosen. The choices are those of which the compiler makes conditional moves: n, where any number but 0 would do, is one that
 // it knows nothing of.
+#![tactic(auto)]
+
 ghost use Rattle.std.specs.Prelude.{◌≡◌, false, cond, ◌&&◌, ◌||◌, ◌+◌, ◌-◌, ◌*◌, ◌≤◌, eqb, leb, get_or, length};
 ghost use Rattle.rules.specs.Limits.{JOURNAL-LEN, MAX-ENTRIES, DAY-MS, TRANSFER, OPEN, SIGNER, NONCE, OPERATION, ENTRY-AMOUNT, SETTLED-AT};
 ghost use Rattle.rules.specs.Table.{all, every};
@@ -20,7 +22,7 @@ const TRANSFER: u64 = rules::limits::TRANSFER as u64;
 const OPEN: u64 = rules::limits::OPEN as u64;
 
 // Whether rows are right, and then whether the nonce was used and what the daily cap counts; nothing is said of rows that are not right.
-#[derive(Drop)]
+#[derive(Clone, Copy)]
 pub struct Looked {
     pub right: bool,
     pub used: bool,

@@ -1,4 +1,6 @@
 // The submission record of 108 bytes: read into its fields, by either form, and written from them.
+#![tactic(auto)]
+
 ghost use Rattle.std.specs.Prelude.{◌≡◌, length};
 ghost use Rattle.rules.specs.Limits.{RECORD-BYTES};
 ghost use Rattle.rules.specs.Record.{decode, encode, nothing, read_by, read_of, Written, writeOf};
@@ -44,19 +46,19 @@ fn fields(b: &[u8]) -> Submission
     Submission {
         op: b[2],
         flags: b[3],
-        now: bytes::word_at(b, 4),
-        signer: bytes::word_at(b, 12),
-        nonce: bytes::word_at(b, 20),
-        issued: bytes::word_at(b, 28),
-        expires: bytes::word_at(b, 36),
-        target: bytes::word_at(b, 44),
-        amount: bytes::word_at(b, 52),
-        until: bytes::word_at(b, 60),
-        link: bytes::word_at(b, 68),
-        hash0: bytes::word_at(b, 76),
-        hash1: bytes::word_at(b, 84),
-        hash2: bytes::word_at(b, 92),
-        hash3: bytes::word_at(b, 100),
+        now: word_bytes::word_at(b, 4),
+        signer: word_bytes::word_at(b, 12),
+        nonce: word_bytes::word_at(b, 20),
+        issued: word_bytes::word_at(b, 28),
+        expires: word_bytes::word_at(b, 36),
+        target: word_bytes::word_at(b, 44),
+        amount: word_bytes::word_at(b, 52),
+        until: word_bytes::word_at(b, 60),
+        link: word_bytes::word_at(b, 68),
+        hash0: word_bytes::word_at(b, 76),
+        hash1: word_bytes::word_at(b, 84),
+        hash2: word_bytes::word_at(b, 92),
+        hash3: word_bytes::word_at(b, 100),
     }
 }
 
@@ -99,7 +101,7 @@ fn put_fields(s: Submission, out: &mut [u8])
         s.now, s.signer, s.nonce, s.issued, s.expires, s.target, s.amount, s.until, s.link,
         s.hash0, s.hash1, s.hash2, s.hash3,
     ];
-    bytes::put_words(out, 4, &words);
+    word_bytes::put_words(out, 4, &words);
 }
 
 // Writes a record: 0 and its bytes, or 3 and the output as it was.

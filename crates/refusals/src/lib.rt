@@ -1,5 +1,7 @@
 // Checks 4 to 43 on a ledger that is sound and a record that is well formed: the number of the first that holds, or 0. A family of
 // operations is one strict group: each of its conditions is worked out, and then the first that holds is picked, from the last to the first.
+#![tactic(auto)]
+
 ghost use Rattle.std.specs.Prelude.{◌≡◌};
 ghost use Rattle.rules.specs.Moments.{tables, lent};
 ghost use Rattle.rules.specs.Refusals.{first, operationRefusals};

@@ -1,5 +1,7 @@
 // A recording replayed: each entry is submitted in turn and its recorded answer compared, up to the first that disagrees. What holds for every
 // edition is written and proved once; the public calls are those of each edition that there is, and ask nothing.
+#![tactic(auto)]
+
 ghost use Rattle.std.specs.Prelude.{◌≡◌, ◌+◌, ◌≤◌, get_or, length};
 ghost use Rattle.rules.specs.Ledger.{Sized, first-edition};
 ghost use Rattle.rules.specs.Limits.{ENTRY-BYTES, ANSWER-AT, WORD-AT};
@@ -22,7 +24,7 @@ fn recorded_at(recording: &[u8], at: usize) -> Answer
     ensures { result ≡ answer (get_or recording.now (at + ANSWER-AT) 0) (leAt 8 recording.now (at + WORD-AT)) }
 {
     let number = recording[at + ANSWER_AT] as u64;
-    let word = bytes::word_at(recording, at + WORD_AT);
+    let word = word_bytes::word_at(recording, at + WORD_AT);
     Answer { number, word }
 }
 

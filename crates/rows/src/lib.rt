@@ -1,4 +1,6 @@
 // Words and rows of a lent table. A row is counted from 0 here; its number is one more.
+#![tactic(auto)]
+
 ghost use Rattle.std.specs.Prelude.{◌≡◌, cond, ◌*◌, ◌<◌, ◌≤◌, ◌^◌, length, get_or};
 ghost use Rattle.rules.specs.Limits.{WALLET-LEN};
 ghost use Rattle.rules.specs.Table.{word, put, putRow, tableRight};

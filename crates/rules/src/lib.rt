@@ -1,4 +1,6 @@
 // The submission and the answers, as every crate and the host know them; the named limits and columns; the status of an answer.
+#![tactic(auto)]
+
 ghost use Rattle.std.specs.Prelude.{◌≡◌};
 ghost use Rattle.rules.specs.Status.{statusOf};
 
@@ -8,7 +10,7 @@ pub mod limits;
 
 // The fields of a submission record. `op` and `flags` are the record's own bytes.
 #[repr(C)]
-#[derive(Drop)]
+#[derive(Clone, Copy)]
 pub struct Submission {
     pub op: u8,
     pub flags: u8,
@@ -28,7 +30,7 @@ pub struct Submission {
 }
 
 // The form of a record: which records are well formed, and what operations 7 and 8 do.
-#[derive(Drop)]
+#[derive(Clone, Copy)]
 pub enum Form {
     // As it was before document 02, request 7: 7 is an accept, and 8 a dispute.
     Old,
@@ -38,7 +40,7 @@ pub enum Form {
 
 // What reading a record finds: 0 and its fields, or 3 and zeros.
 #[repr(C)]
-#[derive(Drop)]
+#[derive(Clone, Copy)]
 pub struct Read {
     pub number: u64,
     pub submission: Submission,
@@ -46,14 +48,14 @@ pub struct Read {
 
 // The answer to a submission.
 #[repr(C)]
-#[derive(Drop)]
+#[derive(Clone, Copy)]
 pub struct Answer {
     pub number: u64,
     pub word: u64,
 }
 
 // What a replay of a recording finds.
-#[derive(Drop)]
+#[derive(Clone, Copy)]
 pub enum Found {
     // The tables have a wrong length.
     WrongLength,
@@ -67,7 +69,7 @@ pub enum Found {
 
 // The same as numbers: the answer's, the finding's, how many entries were replayed, and both answers to the last of these if it disagrees.
 #[repr(C)]
-#[derive(Drop)]
+#[derive(Clone, Copy)]
 pub struct Verdict {
     pub number: u64,
     pub finding: u64,
@@ -78,14 +80,14 @@ pub struct Verdict {
 
 // What adding a recording to the month's report came to: the answer, and how many entries were read.
 #[repr(C)]
-#[derive(Drop)]
+#[derive(Clone, Copy)]
 pub struct Told {
     pub number: u64,
     pub entries: u64,
 }
 
 // What an edition fixes: its number, and the words of a header and of an escrow row.
-#[derive(Drop)]
+#[derive(Clone, Copy)]
 pub struct Edition {
     pub number: u64,
     pub header: usize,
@@ -101,19 +103,19 @@ pub const FIRST: Edition = Edition {
 
 // The number of a row, counted from 1; 0 is no row. They are types of their own, so that none is taken for another.
 #[repr(C)]
-#[derive(Drop)]
+#[derive(Clone, Copy)]
 pub struct WalletNumber(pub u64);
 
 #[repr(C)]
-#[derive(Drop)]
+#[derive(Clone, Copy)]
 pub struct EscrowNumber(pub u64);
 
 #[repr(C)]
-#[derive(Drop)]
+#[derive(Clone, Copy)]
 pub struct ReceiptNumber(pub u64);
 
 // What looking up a wallet finds. A frozen wallet is live.
-#[derive(Drop)]
+#[derive(Clone, Copy)]
 pub enum WalletState {
     // There is none.
     Missing,
@@ -125,7 +127,7 @@ pub enum WalletState {
 
 // The same as numbers: which of the three, and the number of its row, or 0.
 #[repr(C)]
-#[derive(Drop)]
+#[derive(Clone, Copy)]
 pub struct Standing {
     pub state: u64,
     pub number: u64,

@@ -1,5 +1,7 @@
 // Settles the records on standard input on a fresh ledger of 64 wallets, 128 escrows, 128 receipts and 512 journal rows. A line for each:
 // its ordinal, the answer, the word. Then the granted total.
+#![tactic(auto)]
+
 use libc::{STDIN_FILENO, STDOUT_FILENO};
 use rules::limits::{GRANTED, RECORD_BYTES};
 

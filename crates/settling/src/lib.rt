@@ -1,4 +1,6 @@
 // Settling a submission that no refusal holds back: its operation, then the clock, then the journal.
+#![tactic(auto)]
+
 ghost use Rattle.std.specs.Prelude.{◌≡◌, ◌<◌, ◌≤◌, length, get_or};
 ghost use Rattle.rules.specs.Limits.{MAX-ENTRIES, ENTRIES};
 ghost use Rattle.rules.specs.Ledger.{Ledger};

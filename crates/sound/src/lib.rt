@@ -1,4 +1,6 @@
 // Whether a ledger is sound, exactly, for any words: one pass over each table.
+#![tactic(auto)]
+
 ghost use Rattle.std.specs.Prelude.{◌≡◌, true, ◌≤◌, length};
 ghost use Rattle.rules.specs.Table.{all};
 ghost use Rattle.rules.specs.Ledger.{Sized, lengthsRight};

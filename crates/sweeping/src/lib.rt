@@ -1,4 +1,6 @@
 // The sweep: due receipts in row order first, then due escrows in row order, until its limit. Its word counts the rows that it closed.
+#![tactic(auto)]
+
 ghost use Rattle.std.specs.Prelude.{◌≡◌, ◌&&◌, ℕ, ◌+◌, ◌-◌, ◌<◌, ◌≤◌, min, get_or, eqb, ltb};
 ghost use Rattle.rules.specs.Limits.{ESCROWS};
 ghost use Rattle.rules.specs.Table.{loop};

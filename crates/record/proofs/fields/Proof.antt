@@ -6,7 +6,7 @@ use Rattle.record.proofs.fields.Statement.{statement}
 use Rattle.record.proofs.fields.Tie as tie
 use Rattle.record.proofs.fields.Reads as reads
 use Rattle.record.proofs.fields.Lts as lts
-use Rattle.bytes.proofs.word_at.Reads as word-at-reads
+use Rattle.word_bytes.proofs.word_at.Reads as word-at-reads
 
 shared-slice-read-t3 : tie.Need-shared-slice-read-t3
 shared-slice-read-t3 c = search rules

@@ -6,7 +6,7 @@ use Rattle.record.proofs.put_fields.Statement.{statement}
 use Rattle.record.proofs.put_fields.Tie as tie
 use Rattle.record.proofs.put_fields.Reads as reads
 use Rattle.record.proofs.put_fields.Lts as lts
-use Rattle.bytes.proofs.put_words.Reads as put-words-reads
+use Rattle.word_bytes.proofs.put_words.Reads as put-words-reads
 
 slice-write-out : tie.Need-slice-write-out
 slice-write-out c = search rules

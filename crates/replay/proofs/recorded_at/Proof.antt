@@ -10,7 +10,7 @@ use Rattle.replay.proofs.recorded_at.Statement.{statement}
 use Rattle.replay.proofs.recorded_at.Tie as tie
 use Rattle.replay.proofs.recorded_at.Reads as reads
 use Rattle.replay.proofs.recorded_at.Lts as lts
-use Rattle.bytes.proofs.word_at.Reads as word-at-reads
+use Rattle.word_bytes.proofs.word_at.Reads as word-at-reads
 
 add-number : tie.Need-overflow-add-number
 add-number c = search rules
