@@ -5,27 +5,27 @@ use mathlib.Core.List.{List, [], ◌∷◌}
 use Prim.Native.Nat.{ℕ, ◌+◌, ◌-◌, ◌*◌, ◌<◌, ◌≤◌, ◌^◌}
 use native.Mathlib.Omega.{arith}
 use lib.ListN.{get_or}
-use Rattle.rules.specs.Limits.{MAX-AMOUNT-MICRO, ESCROWS, ESCROW-AMOUNT}
+use Rattle.rules.specs.Limits.{MAX_AMOUNT_MICRO, ESCROWS, ESCROW_AMOUNT}
 use Rattle.rules.specs.Table.{word, loop}
-use Rattle.rules.specs.Ledger.{Ledger, ledgerOf, escrowCount}
+use Rattle.rules.specs.Ledger.{Ledger, ledger_of, escrow_count}
 use Rattle.rules.specs.declared.Edition.{Edition}
-use Rattle.rules.specs.Settle.{Sweep, sweepEscrow, sweptReceipts, swept}
-use Rattle.rules.proofs.Bools.{cond-case}
-use Rattle.rules.proofs.Good.{amount-most}
+use Rattle.rules.specs.Settle.{Sweep, sweep_escrow, swept_receipts, swept}
+use Rattle.rules.proofs.Bools.{cond_case}
+use Rattle.rules.proofs.Good.{amount_most}
 use Rattle.rules.proofs.Adds.{figures}
 use Rattle.rows.specs.Numbered.{Names}
-use Rattle.sweeping.proofs.Turns.{loop-none, loop-next, loop-full, escrow-full}
+use Rattle.sweeping.proofs.Turns.{loop_none, loop_next, loop_full, escrow_full}
 use Rattle.adding.specs.Needs.{Expires}
-use Rattle.adding.specs.Turns.{expires, expiredRows, expiredAmount, Ended, Receipted}
-use Rattle.adding.proofs.Spent.{Spent, spent-start, spent-turn}
+use Rattle.adding.specs.Turns.{expires, expired_rows, expired_amount, Ended, Receipted}
+use Rattle.adding.proofs.Spent.{Spent, spent_start, spent_turn}
 
 -- after `number` escrows, of which `rows` are closed, and `amount` expires
 pub record SoFar (ed : Edition) (h e : List ℕ) (time limit rows amount number : ℕ) : Type 0 where
   pub written : number ≤ get_or h ESCROWS 0
   pub room : rows ≤ limit
-  pub small : amount ≤ number * MAX-AMOUNT-MICRO
-  pub spent : (w r j : List ℕ) (S : Sweep) (released : ℕ) → Receipted (ledgerOf ed h w e r j) time limit released S
-      → Spent (ledgerOf ed h w e r j) time released number (limit - rows) amount (loop number (sweepEscrow time) S)
+  pub small : amount ≤ number * MAX_AMOUNT_MICRO
+  pub spent : (w r j : List ℕ) (S : Sweep) (released : ℕ) → Receipted (ledger_of ed h w e r j) time limit released S
+      → Spent (ledger_of ed h w e r j) time released number (limit - rows) amount (loop number (sweep_escrow time) S)
 
 pub start : (ed : Edition) (h e : List ℕ) (time limit : ℕ) → SoFar ed h e time limit 0 0 0
 start ed h e time limit = record {
@@ -33,78 +33,78 @@ start ed h e time limit = record {
   room = omega arith;
   small = omega arith;
   spent = λ w r j S released a.
-      let L : Ledger = ledgerOf ed h w e r j in
+      let L : Ledger = ledger_of ed h w e r j in
       let z : limit ≡ limit - 0 = omega arith in
-      subst (λ (n : ℕ). Spent L time released 0 n 0 (loop 0 (sweepEscrow time) S)) z
-      (subst (Spent L time released 0 limit 0) (sym (loop-none (sweepEscrow time) S)) (spent-start L time released limit S a));
+      subst (λ (n : ℕ). Spent L time released 0 n 0 (loop 0 (sweep_escrow time) S)) z
+      (subst (Spent L time released 0 limit 0) (sym (loop_none (sweep_escrow time) S)) (spent_start L time released limit S a));
 }
 
 module _ (ed : Edition) (h e : List ℕ) (time : ℕ) (s : Expires ed h e time) where
-  pub can-turn : (number : ℕ) → number < get_or h ESCROWS 0 → Names (number + 1) × (ed.escrow < 2 ^ 16)
-  can-turn number l = (record { low = omega arith; high = omega (arith, s.sweeps.sweeping.small.escrows) }, s.sweeps.sweeping.len)
+  pub can_turn : (number : ℕ) → number < get_or h ESCROWS 0 → Names (number + 1) × (ed.escrow < 2 ^ 16)
+  can_turn number l = (record { low = omega arith; high = omega (arith, s.sweeps.sweeping.small.escrows) }, s.sweeps.sweeping.len)
 
   module _ (limit rows amount number : ℕ) (far : SoFar ed h e time limit rows amount number) where
     -- the next escrow, as the code has it: by its number, which is one more
-    module _ (x y : ℕ) (l : number < get_or h ESCROWS 0) (m : rows < limit) (p : x ≡ expiredRows ed e time (number + 1 - 1))
-        (q : y ≡ expiredAmount ed e time (number + 1 - 1)) where
+    module _ (x y : ℕ) (l : number < get_or h ESCROWS 0) (m : rows < limit) (p : x ≡ expired_rows ed e time (number + 1 - 1))
+        (q : y ≡ expired_amount ed e time (number + 1 - 1)) where
       i : number + 1 - 1 ≡ number
       i = omega arith
 
-      p' : x ≡ expiredRows ed e time number
-      p' = p ∙ ap (expiredRows ed e time) i
+      p' : x ≡ expired_rows ed e time number
+      p' = p ∙ ap (expired_rows ed e time) i
 
-      q' : y ≡ expiredAmount ed e time number
-      q' = q ∙ ap (expiredAmount ed e time) i
+      q' : y ≡ expired_amount ed e time number
+      q' = q ∙ ap (expired_amount ed e time) i
 
       pub row_small : x ≤ 1
-      unfolding expiredRows
-      row_small = subst (λ (n : ℕ). n ≤ 1) (sym p') (cond-case (λ (n : ℕ). n ≤ 1) (expires ed e time number) 1 0 (λ _. omega arith) (λ _. omega arith))
+      unfolding expired_rows
+      row_small = subst (λ (n : ℕ). n ≤ 1) (sym p') (cond_case (λ (n : ℕ). n ≤ 1) (expires ed e time number) 1 0 (λ _. omega arith) (λ _. omega arith))
 
-      turn_small : y ≤ MAX-AMOUNT-MICRO
-      unfolding expiredAmount
+      turn_small : y ≤ MAX_AMOUNT_MICRO
+      unfolding expired_amount
       turn_small =
-          let L : Ledger = ledgerOf ed h s.sweeps.wallets e s.receipts [] in
-          subst (λ (n : ℕ). n ≤ MAX-AMOUNT-MICRO) (sym q')
-          (cond-case (λ (n : ℕ). n ≤ MAX-AMOUNT-MICRO) (expires ed e time number) (word e ed.escrow number ESCROW-AMOUNT) 0
-          (λ _. amount-most L s.sweeps.sweeping.good number l) (λ _. omega arith))
+          let L : Ledger = ledger_of ed h s.sweeps.wallets e s.receipts [] in
+          subst (λ (n : ℕ). n ≤ MAX_AMOUNT_MICRO) (sym q')
+          (cond_case (λ (n : ℕ). n ≤ MAX_AMOUNT_MICRO) (expires ed e time number) (word e ed.escrow number ESCROW_AMOUNT) 0
+          (λ _. amount_most L s.sweeps.sweeping.good number l) (λ _. omega arith))
 
-      pub amount-small : amount + y ≤ (number + 1) * MAX-AMOUNT-MICRO
-      amount-small = omega (arith, far.small, turn_small)
+      pub amount_small : amount + y ≤ (number + 1) * MAX_AMOUNT_MICRO
+      amount_small = omega (arith, far.small, turn_small)
 
       pub next : SoFar ed h e time limit (rows + x) (amount + y) (number + 1)
       next = record {
         written = omega arith;
         room = omega (arith, row_small);
-        small = amount-small;
+        small = amount_small;
         spent = λ w r j S released a.
-            let L : Ledger = ledgerOf ed h w e r j in
-            let T : Sweep = loop number (sweepEscrow time) S in
+            let L : Ledger = ledger_of ed h w e r j in
+            let T : Sweep = loop number (sweep_escrow time) S in
             let z : limit - rows - x ≡ limit - (rows + x) = omega arith in
-            subst (λ (n : ℕ). Spent L time released (number + 1) n (amount + y) (loop (number + 1) (sweepEscrow time) S)) z
+            subst (λ (n : ℕ). Spent L time released (number + 1) n (amount + y) (loop (number + 1) (sweep_escrow time) S)) z
             (subst (Spent L time released (number + 1) (limit - rows - x) (amount + y))
-            (loop-next (sweepEscrow time) S T (sweepEscrow time number T) number number refl refl refl)
-            (spent-turn L time s.sweeps.sweeping.now released number (limit - rows) amount T l (far.spent w r j S released a) x y (omega arith) p' q'));
+            (loop_next (sweep_escrow time) S T (sweep_escrow time number T) number number refl refl refl)
+            (spent_turn L time s.sweeps.sweeping.now released number (limit - rows) amount T l (far.spent w r j S released a) x y (omega arith) p' q'));
       }
 
     -- no escrow is left, or no room
     pub ended : get_or h ESCROWS 0 ≤ number
-        → (w r j : List ℕ) (S : Sweep) (released : ℕ) → Receipted (ledgerOf ed h w e r j) time limit released S
-        → Ended (ledgerOf ed h w e r j) released amount (loop (get_or h ESCROWS 0) (sweepEscrow time) S).tables
+        → (w r j : List ℕ) (S : Sweep) (released : ℕ) → Receipted (ledger_of ed h w e r j) time limit released S
+        → Ended (ledger_of ed h w e r j) released amount (loop (get_or h ESCROWS 0) (sweep_escrow time) S).tables
     ended l w r j S released a =
         let n : number ≡ get_or h ESCROWS 0 = omega (arith, far.written) in
-        subst (λ (k : ℕ). Ended (ledgerOf ed h w e r j) released amount (loop k (sweepEscrow time) S).tables) n (far.spent w r j S released a).ended
+        subst (λ (k : ℕ). Ended (ledger_of ed h w e r j) released amount (loop k (sweep_escrow time) S).tables) n (far.spent w r j S released a).ended
 
     pub full : limit ≤ rows
-        → (w r j : List ℕ) (S : Sweep) (released : ℕ) → Receipted (ledgerOf ed h w e r j) time limit released S
-        → Ended (ledgerOf ed h w e r j) released amount (loop (get_or h ESCROWS 0) (sweepEscrow time) S).tables
+        → (w r j : List ℕ) (S : Sweep) (released : ℕ) → Receipted (ledger_of ed h w e r j) time limit released S
+        → Ended (ledger_of ed h w e r j) released amount (loop (get_or h ESCROWS 0) (sweep_escrow time) S).tables
     full l w r j S released a =
         let b = far.spent w r j S released a in
-        subst (λ (T : Sweep). Ended (ledgerOf ed h w e r j) released amount T.tables)
-        (loop-full (sweepEscrow time) (escrow-full time) S number (get_or h ESCROWS 0) (omega (arith, b.room)) far.written) b.ended
+        subst (λ (T : Sweep). Ended (ledger_of ed h w e r j) released amount T.tables)
+        (loop_full (sweep_escrow time) (escrow_full time) S number (get_or h ESCROWS 0) (omega (arith, b.room)) far.written) b.ended
 
 -- THE SWEEP: what its receipts release, and what expires behind them
-pub swept-figures : (time limit released expired : ℕ) (L : Ledger)
-    → Ended L released expired (loop (escrowCount L) (sweepEscrow time) (sweptReceipts time limit L)).tables
+pub swept_figures : (time limit released expired : ℕ) (L : Ledger)
+    → Ended L released expired (loop (escrow_count L) (sweep_escrow time) (swept_receipts time limit L)).tables
     → 0 ∷ 0 ∷ released ∷ 0 ∷ expired ∷ [] ≡ figures 0 0 L (swept time limit L).tables
 unfolding swept
-swept-figures time limit released expired L a = rw (a.released, a.refunded, a.expired)
+swept_figures time limit released expired L a = rw (a.released, a.refunded, a.expired)

@@ -9,94 +9,94 @@ use native.Mathlib.Omega.{arith}
 use lib.ListN.{get_or}
 use lib.Dec.{eqb, ltb}
 use borrow.Author.Tests.{lt-ltb}
-use Rattle.rules.specs.Limits.{LAST-TIME-MS, ESCROWS, ESCROW-AMOUNT, ESCROW-STATE, IS-OPEN, RELEASED, REFUNDED, EXPIRED}
-use Rattle.rules.specs.Ledger.{Ledger, escrow, escrowCount}
-use Rattle.rules.specs.Settle.{Sweep, oneMore, dueEscrow, closeDueEscrow, sweepEscrow}
+use Rattle.rules.specs.Limits.{LAST_TIME_MS, ESCROWS, ESCROW_AMOUNT, ESCROW_STATE, IS_OPEN, RELEASED, REFUNDED, EXPIRED}
+use Rattle.rules.specs.Ledger.{Ledger, escrow, escrow_count}
+use Rattle.rules.specs.Settle.{Sweep, one_more, due_escrow, close_due_escrow, sweep_escrow}
 use Rattle.rules.specs.Report.{ended_as}
-use Rattle.rules.proofs.Bools.{and_intro, and-fst, and-none-snd}
-use Rattle.rules.proofs.Stays.{kept_then, row_kept, kept-due-escrow}
-use Rattle.rules.proofs.SweepPlan.{escrow-frame}
-use Rattle.rules.proofs.Onward.{Closes, onward_then, closes-due-escrow}
-use Rattle.rules.proofs.Ended.{ended-then, ended-end}
-use Rattle.adding.specs.Turns.{expiredRows, expiredAmount, Ended, Receipted}
+use Rattle.rules.proofs.Bools.{and_intro, and_fst, and_none_snd}
+use Rattle.rules.proofs.Stays.{kept_then, row_kept, kept_due_escrow}
+use Rattle.rules.proofs.SweepPlan.{escrow_frame}
+use Rattle.rules.proofs.Onward.{Closes, onward_then, closes_due_escrow}
+use Rattle.rules.proofs.Ended.{ended_then, ended_end}
+use Rattle.adding.specs.Turns.{expired_rows, expired_amount, Ended, Receipted}
 
 -- `number` escrows of L are passed
 pub record Spent (L : Ledger) (time r number n amount : ℕ) (S : Sweep) : Type 0 where
   pub room : S.room ≡ n
-  pub due : (i : ℕ) → number ≤ i → dueEscrow S.tables time i ≡ dueEscrow L time i
+  pub due : (i : ℕ) → number ≤ i → due_escrow S.tables time i ≡ due_escrow L time i
   pub ended : Ended L r amount S.tables
 
-pub spent-start : (L : Ledger) (time r n : ℕ) (S : Sweep) → Receipted L time n r S → Spent L time r 0 n 0 S
-spent-start L time r n S a = record { room = a.room; due = λ i h. a.due i; ended = a.ended }
+pub spent_start : (L : Ledger) (time r n : ℕ) (S : Sweep) → Receipted L time n r S → Spent L time r 0 n 0 S
+spent_start L time r n S a = record { room = a.room; due = λ i h. a.due i; ended = a.ended }
 
-module _ (L : Ledger) (time : ℕ) (now-right : time ≤ LAST-TIME-MS) (r number n amount : ℕ) (S : Sweep)
-    (l : number < escrowCount L) (a : Spent L time r number n amount S) where
+module _ (L : Ledger) (time : ℕ) (now_right : time ≤ LAST_TIME_MS) (r number n amount : ℕ) (S : Sweep)
+    (l : number < escrow_count L) (a : Spent L time r number n amount S) where
   abbrev M : Ledger
   M = S.tables
 
   abbrev N : Ledger
-  N = closeDueEscrow time number M
+  N = close_due_escrow time number M
 
   was : Ended L r amount M
   was = a.ended
 
-  module _ (due : dueEscrow M time number ≡ true) where
-    open-here : eqb (escrow M number ESCROW-STATE) IS-OPEN ≡ true
-    open-here = and-fst (eqb (escrow M number ESCROW-STATE) IS-OPEN) _ due
+  module _ (due : due_escrow M time number ≡ true) where
+    open_here : eqb (escrow M number ESCROW_STATE) IS_OPEN ≡ true
+    open_here = and_fst (eqb (escrow M number ESCROW_STATE) IS_OPEN) _ due
 
     closes : Closes M N
-    closes = closes-due-escrow time number M was.kept.good.wide due
+    closes = closes_due_escrow time number M was.kept.good.wide due
 
-    count-so : escrowCount M ≡ escrowCount L
-    count-so = ap (λ (t : List ℕ). get_or t ESCROWS 0) was.kept.header
+    count_so : escrow_count M ≡ escrow_count L
+    count_so = ap (λ (t : List ℕ). get_or t ESCROWS 0) was.kept.header
 
-    then : (st : ℕ) → eqb IS-OPEN st ≡ false → ended_as st L N ≡ ended_as st L M + cond (eqb EXPIRED st) (escrow L number ESCROW-AMOUNT) 0
-    unfolding closeDueEscrow
+    then : (st : ℕ) → eqb IS_OPEN st ≡ false → ended_as st L N ≡ ended_as st L M + cond (eqb EXPIRED st) (escrow L number ESCROW_AMOUNT) 0
+    unfolding close_due_escrow
     then st other =
-        ended-then st L M N other count-so was.onward closes.onward
+        ended_then st L M N other count_so was.onward closes.onward
         ∙ ap (λ (k : ℕ). ended_as st L M + k)
-        (ended-end st EXPIRED time 0 number M other was.kept.good (row_kept ESCROWS was.kept l) open-here
+        (ended_end st EXPIRED time 0 number M other was.kept.good (row_kept ESCROWS was.kept l) open_here
         ∙ ap (λ (k : ℕ). cond (eqb EXPIRED st) k 0) (was.onward.amounts number l))
 
-    ended_so : (y : ℕ) → y ≡ escrow L number ESCROW-AMOUNT → Ended L r (amount + y) N
+    ended_so : (y : ℕ) → y ≡ escrow L number ESCROW_AMOUNT → Ended L r (amount + y) N
     ended_so y e = record {
-      kept = kept_then was.kept (kept-due-escrow L time now-right M was.kept.good number (row_kept ESCROWS was.kept l) due);
-      onward = onward_then (omega (arith, count-so)) was.onward closes.onward;
+      kept = kept_then was.kept (kept_due_escrow L time now_right M was.kept.good number (row_kept ESCROWS was.kept l) due);
+      onward = onward_then (omega (arith, count_so)) was.onward closes.onward;
       released = omega (arith, then RELEASED refl, was.released);
       refunded = omega (arith, then REFUNDED refl, was.refunded);
       expired = then EXPIRED refl ∙ ap₂ ◌+◌ was.expired (sym e);
     }
 
-    spent-closed : (x y : ℕ) → x ≡ 1 → y ≡ escrow L number ESCROW-AMOUNT → Spent L time r (number + 1) (n - x) (amount + y) (oneMore S N)
-    spent-closed x y one e = record {
+    spent_closed : (x y : ℕ) → x ≡ 1 → y ≡ escrow L number ESCROW_AMOUNT → Spent L time r (number + 1) (n - x) (amount + y) (one_more S N)
+    spent_closed x y one e = record {
       room = omega (arith, a.room);
-      due = λ i h. escrow-frame time M was.kept.good.wide number i (omega arith) ∙ a.due i (omega arith);
+      due = λ i h. escrow_frame time M was.kept.good.wide number i (omega arith) ∙ a.due i (omega arith);
       ended = ended_so y e;
     }
 
-  spent-passed : (x y : ℕ) → x ≡ 0 → y ≡ 0 → Spent L time r (number + 1) (n - x) (amount + y) S
-  spent-passed x y none e = record {
+  spent_passed : (x y : ℕ) → x ≡ 0 → y ≡ 0 → Spent L time r (number + 1) (n - x) (amount + y) S
+  spent_passed x y none e = record {
     room = omega (arith, a.room);
     due = λ i h. a.due i (omega arith);
     ended = let z : amount ≡ amount + y = omega arith in subst (λ (k : ℕ). Ended L r k S.tables) z was;
   }
 
   -- THE TURN of a sweep that may still close a row
-  pub spent-turn : (x y : ℕ) → 0 < n → x ≡ expiredRows L.edition L.escrows time number → y ≡ expiredAmount L.edition L.escrows time number
-      → Spent L time r (number + 1) (n - x) (amount + y) (sweepEscrow time number S)
-  unfolding sweepEscrow expiredRows expiredAmount
-  spent-turn x y some p q = go (dueEscrow L time number) refl p q
+  pub spent_turn : (x y : ℕ) → 0 < n → x ≡ expired_rows L.edition L.escrows time number → y ≡ expired_amount L.edition L.escrows time number
+      → Spent L time r (number + 1) (n - x) (amount + y) (sweep_escrow time number S)
+  unfolding sweep_escrow expired_rows expired_amount
+  spent_turn x y some p q = go (due_escrow L time number) refl p q
     where
       T : Sweep → Type 0
       T = Spent L time r (number + 1) (n - x) (amount + y)
 
-      go : (c : Bool) → dueEscrow L time number ≡ c → x ≡ cond c 1 0 → y ≡ cond c (escrow L number ESCROW-AMOUNT) 0
-          → T (cond (ltb 0 S.room && dueEscrow M time number) (oneMore S N) S)
+      go : (c : Bool) → due_escrow L time number ≡ c → x ≡ cond c 1 0 → y ≡ cond c (escrow L number ESCROW_AMOUNT) 0
+          → T (cond (ltb 0 S.room && due_escrow M time number) (one_more S N) S)
       go true t p q =
-          let due : dueEscrow M time number ≡ true = a.due number (le_refl number) ∙ t in
-          let here : (ltb 0 S.room && dueEscrow M time number) ≡ true = and_intro _ _ (lt-ltb 0 S.room (omega (arith, a.room))) due in
-          subst (λ (d : Bool). T (cond d (oneMore S N) S)) (sym here) (spent-closed due x y p q)
+          let due : due_escrow M time number ≡ true = a.due number (le_refl number) ∙ t in
+          let here : (ltb 0 S.room && due_escrow M time number) ≡ true = and_intro _ _ (lt-ltb 0 S.room (omega (arith, a.room))) due in
+          subst (λ (d : Bool). T (cond d (one_more S N) S)) (sym here) (spent_closed due x y p q)
       go false t p q =
-          let here : (ltb 0 S.room && dueEscrow M time number) ≡ false =
-          and-none-snd (ltb 0 S.room) (dueEscrow M time number) (a.due number (le_refl number) ∙ t) in
-          subst (λ (d : Bool). T (cond d (oneMore S N) S)) (sym here) (spent-passed x y p q)
+          let here : (ltb 0 S.room && due_escrow M time number) ≡ false =
+          and_none_snd (ltb 0 S.room) (due_escrow M time number) (a.due number (le_refl number) ∙ t) in
+          subst (λ (d : Bool). T (cond d (one_more S N) S)) (sym here) (spent_passed x y p q)

@@ -1,11 +1,11 @@
 -- A sweep laid out on the tables as they were before it. Which escrows it has released so far is kept as marks, a number for each row of
 -- escrows, 0 until its escrow is released: the state of an escrow in the sweep is then known without closing anything.
 use Rattle.std.specs.Prelude.{◌≡◌, List, Bool, not, cond, ◌&&◌, ℕ, ◌-◌, get_or, set, length, eqb, ltb, leb}
-use Rattle.rules.specs.Limits.{RECEIPT-LEN, MAX-ESCROWS, IS-OPEN, RELEASED, REFUNDED, EXPIRED, PENDING, ESCROW-AMOUNT, ESCROW-DEADLINE, ESCROW-STATE}
-use Rattle.rules.specs.Limits.{RECEIPT-LINK, ACCEPTANCE-DEADLINE, AUTO-ACCEPT, RECEIPT-STATE}
+use Rattle.rules.specs.Limits.{RECEIPT_LEN, MAX_ESCROWS, IS_OPEN, RELEASED, REFUNDED, EXPIRED, PENDING, ESCROW_AMOUNT, ESCROW_DEADLINE, ESCROW_STATE}
+use Rattle.rules.specs.Limits.{RECEIPT_LINK, ACCEPTANCE_DEADLINE, AUTO_ACCEPT, RECEIPT_STATE}
 use Rattle.rules.specs.Table.{word}
 use Rattle.rules.specs.Ledger.{Ledger}
-use Rattle.rules.specs.Settle.{Sweep, dueEscrow}
+use Rattle.rules.specs.Settle.{Sweep, due_escrow}
 use Rattle.rules.specs.Report.{ended_as}
 use Rattle.rules.specs.declared.Edition.{Edition}
 use Rattle.rules.proofs.Stays.{Kept}
@@ -13,64 +13,64 @@ use Rattle.rules.proofs.Onward.{Onward}
 
 -- the row of the escrow that the receipt in row i links
 abbrev pub linked : List ℕ → ℕ → ℕ
-linked receipts i = word receipts RECEIPT-LEN i RECEIPT-LINK - 1
+linked receipts i = word receipts RECEIPT_LEN i RECEIPT_LINK - 1
 
 -- the receipt in row i is accepted: its escrow is released
 abbrev pub frees : Edition → List ℕ → List ℕ → ℕ → ℕ → Bool
 frees ed escrows receipts time i =
-    not (eqb (word receipts RECEIPT-LEN i RECEIPT-LINK) 0)
-    && (eqb (word escrows ed.escrow (linked receipts i) ESCROW-STATE) IS-OPEN
-    && leb time (word escrows ed.escrow (linked receipts i) ESCROW-DEADLINE))
+    not (eqb (word receipts RECEIPT_LEN i RECEIPT_LINK) 0)
+    && (eqb (word escrows ed.escrow (linked receipts i) ESCROW_STATE) IS_OPEN
+    && leb time (word escrows ed.escrow (linked receipts i) ESCROW_DEADLINE))
 
 -- with its amount
 unfoldable pub freed : Edition → List ℕ → List ℕ → ℕ → ℕ → ℕ
 freed ed escrows receipts time i =
-    cond (frees ed escrows receipts time i) (word escrows ed.escrow (linked receipts i) ESCROW-AMOUNT) 0
+    cond (frees ed escrows receipts time i) (word escrows ed.escrow (linked receipts i) ESCROW_AMOUNT) 0
 
 -- the receipt in row i is due
 abbrev pub closes : List ℕ → ℕ → ℕ → Bool
-closes receipts time i = eqb (word receipts RECEIPT-LEN i RECEIPT-STATE) PENDING && ltb (word receipts RECEIPT-LEN i ACCEPTANCE-DEADLINE) time
+closes receipts time i = eqb (word receipts RECEIPT_LEN i RECEIPT_STATE) PENDING && ltb (word receipts RECEIPT_LEN i ACCEPTANCE_DEADLINE) time
 
 -- it is accepted by a sweep, and its escrow is released, if no receipt before it has done so
-abbrev pub freesNow : Edition → List ℕ → List ℕ → List ℕ → ℕ → ℕ → Bool
-freesNow ed escrows receipts marks time i =
-    eqb (word receipts RECEIPT-LEN i AUTO-ACCEPT) 1
-    && (not (eqb (word receipts RECEIPT-LEN i RECEIPT-LINK) 0)
-    && ((eqb (word escrows ed.escrow (linked receipts i) ESCROW-STATE) IS-OPEN && eqb (get_or marks (linked receipts i) 0) 0)
-    && leb time (word escrows ed.escrow (linked receipts i) ESCROW-DEADLINE)))
+abbrev pub frees_now : Edition → List ℕ → List ℕ → List ℕ → ℕ → ℕ → Bool
+frees_now ed escrows receipts marks time i =
+    eqb (word receipts RECEIPT_LEN i AUTO_ACCEPT) 1
+    && (not (eqb (word receipts RECEIPT_LEN i RECEIPT_LINK) 0)
+    && ((eqb (word escrows ed.escrow (linked receipts i) ESCROW_STATE) IS_OPEN && eqb (get_or marks (linked receipts i) 0) 0)
+    && leb time (word escrows ed.escrow (linked receipts i) ESCROW_DEADLINE)))
 
-unfoldable pub freedNow : Edition → List ℕ → List ℕ → List ℕ → ℕ → ℕ → ℕ
-freedNow ed escrows receipts marks time i =
-    cond (freesNow ed escrows receipts marks time i) (word escrows ed.escrow (linked receipts i) ESCROW-AMOUNT) 0
+unfoldable pub freed_now : Edition → List ℕ → List ℕ → List ℕ → ℕ → ℕ → ℕ
+freed_now ed escrows receipts marks time i =
+    cond (frees_now ed escrows receipts marks time i) (word escrows ed.escrow (linked receipts i) ESCROW_AMOUNT) 0
 
 -- and the marks after it
-unfoldable pub markedNow : Edition → List ℕ → List ℕ → List ℕ → ℕ → ℕ → List ℕ
-markedNow ed escrows receipts marks time i = cond (freesNow ed escrows receipts marks time i) (set marks (linked receipts i) 1) marks
+unfoldable pub marked_now : Edition → List ℕ → List ℕ → List ℕ → ℕ → ℕ → List ℕ
+marked_now ed escrows receipts marks time i = cond (frees_now ed escrows receipts marks time i) (set marks (linked receipts i) 1) marks
 
 -- a turn of the sweep: how many rows it closes, what it releases, and the marks after it
-unfoldable pub closedRows : List ℕ → ℕ → ℕ → ℕ
-closedRows receipts time i = cond (closes receipts time i) 1 0
+unfoldable pub closed_rows : List ℕ → ℕ → ℕ → ℕ
+closed_rows receipts time i = cond (closes receipts time i) 1 0
 
-unfoldable pub closedAmount : Edition → List ℕ → List ℕ → List ℕ → ℕ → ℕ → ℕ
-closedAmount ed escrows receipts marks time i = cond (closes receipts time i) (freedNow ed escrows receipts marks time i) 0
+unfoldable pub closed_amount : Edition → List ℕ → List ℕ → List ℕ → ℕ → ℕ → ℕ
+closed_amount ed escrows receipts marks time i = cond (closes receipts time i) (freed_now ed escrows receipts marks time i) 0
 
-unfoldable pub closedMarks : Edition → List ℕ → List ℕ → List ℕ → ℕ → ℕ → List ℕ
-closedMarks ed escrows receipts marks time i = cond (closes receipts time i) (markedNow ed escrows receipts marks time i) marks
+unfoldable pub closed_marks : Edition → List ℕ → List ℕ → List ℕ → ℕ → ℕ → List ℕ
+closed_marks ed escrows receipts marks time i = cond (closes receipts time i) (marked_now ed escrows receipts marks time i) marks
 
 -- the escrow in row i is due; a turn of the sweep's second loop
 abbrev pub expires : Edition → List ℕ → ℕ → ℕ → Bool
 expires ed escrows time i =
-    eqb (word escrows ed.escrow i ESCROW-STATE) IS-OPEN && ltb (word escrows ed.escrow i ESCROW-DEADLINE) time
+    eqb (word escrows ed.escrow i ESCROW_STATE) IS_OPEN && ltb (word escrows ed.escrow i ESCROW_DEADLINE) time
 
-unfoldable pub expiredRows : Edition → List ℕ → ℕ → ℕ → ℕ
-expiredRows ed escrows time i = cond (expires ed escrows time i) 1 0
+unfoldable pub expired_rows : Edition → List ℕ → ℕ → ℕ → ℕ
+expired_rows ed escrows time i = cond (expires ed escrows time i) 1 0
 
-unfoldable pub expiredAmount : Edition → List ℕ → ℕ → ℕ → ℕ
-expiredAmount ed escrows time i = cond (expires ed escrows time i) (word escrows ed.escrow i ESCROW-AMOUNT) 0
+unfoldable pub expired_amount : Edition → List ℕ → ℕ → ℕ → ℕ
+expired_amount ed escrows time i = cond (expires ed escrows time i) (word escrows ed.escrow i ESCROW_AMOUNT) 0
 
 -- a mark for each escrow that there can be, and nothing is marked yet
 pub record Unmarked (marks : List ℕ) : Type 0 where
-  pub places : length marks ≡ MAX-ESCROWS
+  pub places : length marks ≡ MAX_ESCROWS
   pub none : (i : ℕ) → get_or marks i 0 ≡ 0
 
 -- M comes of L by settling; what was released on the way is r, what expired x, and nothing was refunded
@@ -84,5 +84,5 @@ pub record Ended (L : Ledger) (r x : ℕ) (M : Ledger) : Type 0 where
 -- a sweep S of L that has closed receipts only, with room for n rows more: its due escrows are those of L
 pub record Receipted (L : Ledger) (time n r : ℕ) (S : Sweep) : Type 0 where
   pub room : S.room ≡ n
-  pub due : (i : ℕ) → dueEscrow S.tables time i ≡ dueEscrow L time i
+  pub due : (i : ℕ) → due_escrow S.tables time i ≡ due_escrow L time i
   pub ended : Ended L r 0 S.tables

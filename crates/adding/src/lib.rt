@@ -6,15 +6,15 @@ ghost use Rattle.std.specs.Prelude.{◌≡◌, ℕ, ◌-◌, ◌<◌, ◌≤◌,
 ghost use Rattle.rules.specs.Limits.{ESCROWS};
 ghost use Rattle.rules.specs.Table.{loop};
 ghost use Rattle.rules.specs.Ledger.{Ledger, outcome};
-ghost use Rattle.rules.specs.Moments.{any, ◌of-edition◌, ◌with-header◌, ◌with-escrows◌, ◌with-receipts◌};
-ghost use Rattle.rules.specs.Settle.{Sweep, sweepEscrow, sweptReceipts, swept, settle};
-ghost use Rattle.rules.specs.Report.{addsOf};
+ghost use Rattle.rules.specs.Moments.{any, ◌of_edition◌, ◌with_header◌, ◌with_escrows◌, ◌with_receipts◌};
+ghost use Rattle.rules.specs.Settle.{Sweep, sweep_escrow, swept_receipts, swept, settle};
+ghost use Rattle.rules.specs.Report.{adds_of};
 ghost use Rattle.rules.proofs.Good.{Good};
 ghost use Rattle.rules.proofs.Adds.{figures};
 ghost use Rattle.rows.specs.Numbered.{Names};
 ghost use Rattle.settling.specs.Needs.{Settles};
 ghost use Rattle.adding.specs.Needs.{Adds, Links, Sweeps, Expires};
-ghost use Rattle.adding.specs.Turns.{freed, freedNow, markedNow, closedRows, closedAmount, closedMarks, expiredRows, expiredAmount, Unmarked, Ended, Receipted};
+ghost use Rattle.adding.specs.Turns.{freed, freed_now, marked_now, closed_rows, closed_amount, closed_marks, expired_rows, expired_amount, Unmarked, Ended, Receipted};
 
 use rows::numbered;
 use rules::limits::{
@@ -61,7 +61,7 @@ fn auto_accepted(
     time: u64,
 ) -> u64
     requires { Names number.0 × Links edition receipts.now (number.0 - 1) }
-    ensures { (result ≡ freedNow edition escrows.now receipts.now marks.old time (number.0 - 1)) × (marks.new ≡ markedNow edition escrows.now receipts.now marks.old time (number.0 - 1)) }
+    ensures { (result ≡ freed_now edition escrows.now receipts.now marks.old time (number.0 - 1)) × (marks.new ≡ marked_now edition escrows.now receipts.now marks.old time (number.0 - 1)) }
 {
     let auto = numbered::receipt(receipts, number, AUTO_ACCEPT);
     if auto != 1 {
@@ -92,7 +92,7 @@ fn receipt_turn(
     time: u64,
 ) -> Closed
     requires { Names number.0 × Links edition receipts.now (number.0 - 1) }
-    ensures { (result.rows ≡ closedRows receipts.now time (number.0 - 1)) × (result.amount ≡ closedAmount edition escrows.now receipts.now marks.old time (number.0 - 1)) × (marks.new ≡ closedMarks edition escrows.now receipts.now marks.old time (number.0 - 1)) }
+    ensures { (result.rows ≡ closed_rows receipts.now time (number.0 - 1)) × (result.amount ≡ closed_amount edition escrows.now receipts.now marks.old time (number.0 - 1)) × (marks.new ≡ closed_marks edition escrows.now receipts.now marks.old time (number.0 - 1)) }
 {
     let state = numbered::receipt(receipts, number, RECEIPT_STATE);
     let deadline = numbered::receipt(receipts, number, ACCEPTANCE_DEADLINE);
@@ -117,7 +117,7 @@ fn receipt_turns(
     limit: u64,
 ) -> Closed
     requires { Sweeps edition header.now escrows.now receipts.now time × Unmarked marks.old }
-    ensures { (result.rows ≤ limit) × ((K : Ledger) → let L = any K of-edition edition with-header header with-escrows escrows with-receipts receipts in Good L.entry → Receipted L.entry time (limit - result.rows) result.amount (sweptReceipts time limit L.entry)) }
+    ensures { (result.rows ≤ limit) × ((K : Ledger) → let L = any K of_edition edition with_header header with_escrows escrows with_receipts receipts in Good L.entry → Receipted L.entry time (limit - result.rows) result.amount (swept_receipts time limit L.entry)) }
 {
     let written = header[RECEIPTS];
     let mut rows = 0;
@@ -146,7 +146,7 @@ fn receipt_turns(
 // One escrow, likewise: its amount, if it expires.
 fn escrow_turn(edition: Edition, escrows: &[u64], number: EscrowNumber, time: u64) -> Closed
     requires { Names number.0 × (edition.escrow < 2 ^ 16) }
-    ensures { (result.rows ≡ expiredRows edition escrows.now time (number.0 - 1)) × (result.amount ≡ expiredAmount edition escrows.now time (number.0 - 1)) }
+    ensures { (result.rows ≡ expired_rows edition escrows.now time (number.0 - 1)) × (result.amount ≡ expired_amount edition escrows.now time (number.0 - 1)) }
 {
     let state = numbered::escrow(edition, escrows, number, ESCROW_STATE);
     let deadline = numbered::escrow(edition, escrows, number, ESCROW_DEADLINE);
@@ -164,7 +164,7 @@ fn escrow_turn(edition: Edition, escrows: &[u64], number: EscrowNumber, time: u6
 // them nor after.
 fn escrow_turns(edition: Edition, header: &[u64], escrows: &[u64], time: u64, limit: u64) -> u64
     requires { Expires edition header.now escrows.now time }
-    ensures { (K : Ledger) (S : Sweep) (released : ℕ) → let L = any K of-edition edition with-header header with-escrows escrows in Receipted L.entry time limit released S → Ended L.entry released result (loop (get_or header.now ESCROWS 0) (sweepEscrow time) S).tables }
+    ensures { (K : Ledger) (S : Sweep) (released : ℕ) → let L = any K of_edition edition with_header header with_escrows escrows in Receipted L.entry time limit released S → Ended L.entry released result (loop (get_or header.now ESCROWS 0) (sweep_escrow time) S).tables }
 {
     let written = header[ESCROWS];
     let mut rows = 0;
@@ -194,7 +194,7 @@ fn sweep_adds(
     limit: u64,
 ) -> [u64; FIGURES]
     requires { Sweeps edition header.now escrows.now receipts.now time }
-    ensures { (K : Ledger) → let L = any K of-edition edition with-header header with-escrows escrows with-receipts receipts in Good L.entry → result ≡ figures 0 0 L.entry (swept time limit L.entry).tables }
+    ensures { (K : Ledger) → let L = any K of_edition edition with_header header with_escrows escrows with_receipts receipts in Good L.entry → result ≡ figures 0 0 L.entry (swept time limit L.entry).tables }
 {
     let mut marks = [0u8; MAX_ESCROWS];
     let accepts = receipt_turns(edition, header, escrows, receipts, &mut marks, time, limit);
@@ -213,7 +213,7 @@ pub fn adds(
     s: Submission,
 ) -> [u64; FIGURES]
     requires { Adds edition header.now escrows.now receipts.now s }
-    ensures { (K : Ledger) → let L = any K of-edition edition with-header header with-escrows escrows with-receipts receipts in Settles L.entry s → result ≡ addsOf L.entry s (outcome 0 (settle s L.entry).word (settle s L.entry).after) }
+    ensures { (K : Ledger) → let L = any K of_edition edition with_header header with_escrows escrows with_receipts receipts in Settles L.entry s → result ≡ adds_of L.entry s (outcome 0 (settle s L.entry).word (settle s L.entry).after) }
 {
     let op = s.op;
     match op {

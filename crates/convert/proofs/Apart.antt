@@ -6,16 +6,16 @@ use mathlib.Core.Bool.{Bool, true, false, cond, ◌&&◌}
 use Prim.Native.Nat.{ℕ, zero, suc, ◌+◌, ◌-◌}
 use lib.ListN.{get_or}
 use lib.Dec.{eqb, ltb}
-use Rattle.rules.specs.Limits.{GRANTED, BALANCE, LOCKED, AUTO-ACCEPT, RECEIPT-LINK}
-use Rattle.rules.specs.Ledger.{Ledger, head, receipt, escrowCount, receiptCount, hasWallet, setJournal}
-use Rattle.rules.specs.Ledger.{putHead, putWallet, putEscrow, putReceipt, newWallet, newEscrow, newReceipt}
+use Rattle.rules.specs.Limits.{GRANTED, BALANCE, LOCKED, AUTO_ACCEPT, RECEIPT_LINK}
+use Rattle.rules.specs.Ledger.{Ledger, head, receipt, escrow_count, receipt_count, has_wallet, set_journal}
+use Rattle.rules.specs.Ledger.{put_head, put_wallet, put_escrow, put_receipt, new_wallet, new_escrow, new_receipt}
 use Rattle.rules.specs.Refusals.{releasable}
-use Rattle.rules.specs.Settle.{raise, lower, ensureWallet, endEscrow, closeReceipt, Done, done, acceptRow, Sweep, oneMore, dueReceipt, dueEscrow}
-use Rattle.rules.specs.Settle.{closeDueReceipt, closeDueEscrow, sweepReceipt, sweepEscrow, sweepStart, sweptReceipts, swept, escrowOf}
-use Rattle.rules.specs.Settle.{grant, transfer, openEscrow, release, refund, claim, accept, dispute, sweep, freeze, caps, close, idle, operationsBy, operateBy}
+use Rattle.rules.specs.Settle.{raise, lower, ensure_wallet, end_escrow, close_receipt, Done, done, accept_row, Sweep, one_more, due_receipt, due_escrow}
+use Rattle.rules.specs.Settle.{close_due_receipt, close_due_escrow, sweep_receipt, sweep_escrow, sweep_start, swept_receipts, swept, escrow_of}
+use Rattle.rules.specs.Settle.{grant, transfer, open_escrow, release, refund, claim, accept, dispute, sweep, freeze, caps, close, idle, operations_by, operate_by}
 use Rattle.rules.specs.declared.Form.TheVariants.{Old}
 use Rattle.rules.specs.declared.Submission.{Submission}
-use Rattle.rules.proofs.InStep.{loops-keep}
+use Rattle.rules.proofs.InStep.{loops_keep}
 
 -- what comes of both choices comes of the chosen one
 chosen : {A B : Type 0} (f : A → B) (b : Bool) (x y : A) (u v : B) → u ≡ f x → v ≡ f y → cond b u v ≡ f (cond b x y)
@@ -24,114 +24,114 @@ chosen f false x y u v p q = q
 
 module _ (j : List ℕ) where
   -- what is done, and a sweep under way, with the other journal
-  abbrev pub with-journal : Done → Done
-  with-journal d = done d.word (setJournal j d.after)
+  abbrev pub with_journal : Done → Done
+  with_journal d = done d.word (set_journal j d.after)
 
-  abbrev swept-with : Sweep → Sweep
-  swept-with s = record { room = s.room; closed = s.closed; tables = setJournal j s.tables }
+  abbrev swept_with : Sweep → Sweep
+  swept_with s = record { room = s.room; closed = s.closed; tables = set_journal j s.tables }
 
   -- ---- moves
 
-  ensure-apart : (id : ℕ) (K : Ledger) → ensureWallet id (setJournal j K) ≡ setJournal j (ensureWallet id K)
-  unfolding ensureWallet newWallet putHead
-  ensure-apart id K = chosen (setJournal j) (hasWallet K id) K _ _ _ refl refl
+  ensure_apart : (id : ℕ) (K : Ledger) → ensure_wallet id (set_journal j K) ≡ set_journal j (ensure_wallet id K)
+  unfolding ensure_wallet new_wallet put_head
+  ensure_apart id K = chosen (set_journal j) (has_wallet K id) K _ _ _ refl refl
 
-  end-apart : (state now signer i : ℕ) (K : Ledger) → endEscrow state now signer i (setJournal j K) ≡ setJournal j (endEscrow state now signer i K)
-  unfolding endEscrow raise lower putWallet putEscrow
-  end-apart state now signer i K = refl
+  end_apart : (state now signer i : ℕ) (K : Ledger) → end_escrow state now signer i (set_journal j K) ≡ set_journal j (end_escrow state now signer i K)
+  unfolding end_escrow raise lower put_wallet put_escrow
+  end_apart state now signer i K = refl
 
-  close-apart : (state now signer i : ℕ) (K : Ledger) → closeReceipt state now signer i (setJournal j K) ≡ setJournal j (closeReceipt state now signer i K)
-  unfolding closeReceipt putReceipt
-  close-apart state now signer i K = refl
+  close_apart : (state now signer i : ℕ) (K : Ledger) → close_receipt state now signer i (set_journal j K) ≡ set_journal j (close_receipt state now signer i K)
+  unfolding close_receipt put_receipt
+  close_apart state now signer i K = refl
 
   -- a receipt accepted: its escrow is released, or not
-  accept-apart : (now signer i : ℕ) (K : Ledger) → acceptRow now signer i (setJournal j K) ≡ with-journal (acceptRow now signer i K)
-  unfolding acceptRow closeReceipt putReceipt endEscrow raise lower putWallet putEscrow
-  accept-apart now signer i K =
-      let k : ℕ = receipt K i RECEIPT-LINK in
-      chosen with-journal (eqb k 0) _ _ _ _ refl (chosen with-journal (releasable K now (k - 1)) _ _ _ _ refl refl)
+  accept_apart : (now signer i : ℕ) (K : Ledger) → accept_row now signer i (set_journal j K) ≡ with_journal (accept_row now signer i K)
+  unfolding accept_row close_receipt put_receipt end_escrow raise lower put_wallet put_escrow
+  accept_apart now signer i K =
+      let k : ℕ = receipt K i RECEIPT_LINK in
+      chosen with_journal (eqb k 0) _ _ _ _ refl (chosen with_journal (releasable K now (k - 1)) _ _ _ _ refl refl)
 
   -- ---- the sweep
 
-  due-apart : (now i : ℕ) (K : Ledger) → closeDueReceipt now i (setJournal j K) ≡ setJournal j (closeDueReceipt now i K)
-  unfolding closeDueReceipt
-  due-apart now i K =
-      chosen (setJournal j) (eqb (receipt K i AUTO-ACCEPT) 1) _ _ _ _ (ap (λ (d : Done). d.after) (accept-apart now 0 i K)) (close-apart _ now 0 i K)
+  due_apart : (now i : ℕ) (K : Ledger) → close_due_receipt now i (set_journal j K) ≡ set_journal j (close_due_receipt now i K)
+  unfolding close_due_receipt
+  due_apart now i K =
+      chosen (set_journal j) (eqb (receipt K i AUTO_ACCEPT) 1) _ _ _ _ (ap (λ (d : Done). d.after) (accept_apart now 0 i K)) (close_apart _ now 0 i K)
 
   -- a row is closed or left, by words of other tables than the journal
-  turn-apart : (due : Bool) (s : Sweep) (K L : Ledger) → K ≡ setJournal j L → cond due (oneMore s K) (swept-with s) ≡ swept-with (cond due (oneMore s L) s)
-  turn-apart due s K L e = chosen swept-with due (oneMore s L) s _ _ (ap (oneMore s) e) refl
+  turn_apart : (due : Bool) (s : Sweep) (K L : Ledger) → K ≡ set_journal j L → cond due (one_more s K) (swept_with s) ≡ swept_with (cond due (one_more s L) s)
+  turn_apart due s K L e = chosen swept_with due (one_more s L) s _ _ (ap (one_more s) e) refl
 
-  receipt-apart : (now i : ℕ) (s : Sweep) → sweepReceipt now i (swept-with s) ≡ swept-with (sweepReceipt now i s)
-  unfolding sweepReceipt
-  receipt-apart now i s = turn-apart (ltb 0 s.room && dueReceipt s.tables now i) s _ _ (due-apart now i s.tables)
+  receipt_apart : (now i : ℕ) (s : Sweep) → sweep_receipt now i (swept_with s) ≡ swept_with (sweep_receipt now i s)
+  unfolding sweep_receipt
+  receipt_apart now i s = turn_apart (ltb 0 s.room && due_receipt s.tables now i) s _ _ (due_apart now i s.tables)
 
-  escrow-apart : (now i : ℕ) (s : Sweep) → sweepEscrow now i (swept-with s) ≡ swept-with (sweepEscrow now i s)
-  unfolding sweepEscrow closeDueEscrow
-  escrow-apart now i s = turn-apart (ltb 0 s.room && dueEscrow s.tables now i) s _ _ (end-apart _ now 0 i s.tables)
+  escrow_apart : (now i : ℕ) (s : Sweep) → sweep_escrow now i (swept_with s) ≡ swept_with (sweep_escrow now i s)
+  unfolding sweep_escrow close_due_escrow
+  escrow_apart now i s = turn_apart (ltb 0 s.room && due_escrow s.tables now i) s _ _ (end_apart _ now 0 i s.tables)
 
-  swept-apart : (now limit : ℕ) (K : Ledger) → swept now limit (setJournal j K) ≡ swept-with (swept now limit K)
-  unfolding swept sweptReceipts
-  swept-apart now limit K =
-      loops-keep Pair (escrowCount K) (sweepEscrow now) (sweepEscrow now) (λ i h s z e. ap (sweepEscrow now i) e ∙ escrow-apart now i z) _ _
-      (loops-keep Pair (receiptCount K) (sweepReceipt now) (sweepReceipt now) (λ i h s z e. ap (sweepReceipt now i) e ∙ receipt-apart now i z) _
-      (sweepStart limit K) refl)
+  swept_apart : (now limit : ℕ) (K : Ledger) → swept now limit (set_journal j K) ≡ swept_with (swept now limit K)
+  unfolding swept swept_receipts
+  swept_apart now limit K =
+      loops_keep Pair (escrow_count K) (sweep_escrow now) (sweep_escrow now) (λ i h s z e. ap (sweep_escrow now i) e ∙ escrow_apart now i z) _ _
+      (loops_keep Pair (receipt_count K) (sweep_receipt now) (sweep_receipt now) (λ i h s z e. ap (sweep_receipt now i) e ∙ receipt_apart now i z) _
+      (sweep_start limit K) refl)
     where
       Pair : Sweep → Sweep → Type 0
-      Pair s z = s ≡ swept-with z
+      Pair s z = s ≡ swept_with z
 
   -- ---- every operation
 
   abbrev Apart : (Submission → Ledger → Done) → Type 0
-  Apart f = (s : Submission) (K : Ledger) → f s (setJournal j K) ≡ with-journal (f s K)
+  Apart f = (s : Submission) (K : Ledger) → f s (set_journal j K) ≡ with_journal (f s K)
 
   -- a wallet that is missing is made first
-  grant-apart : Apart grant
-  unfolding grant raise putWallet putHead
-  grant-apart s K =
-      ap (λ (M : Ledger). done 0 (putHead GRANTED (head K GRANTED + s.amount) (raise BALANCE s.target s.amount M))) (ensure-apart s.target K)
+  grant_apart : Apart grant
+  unfolding grant raise put_wallet put_head
+  grant_apart s K =
+      ap (λ (M : Ledger). done 0 (put_head GRANTED (head K GRANTED + s.amount) (raise BALANCE s.target s.amount M))) (ensure_apart s.target K)
 
-  transfer-apart : Apart transfer
-  unfolding transfer raise lower putWallet
-  transfer-apart s K =
-      ap (λ (M : Ledger). done 0 (raise BALANCE s.target s.amount (lower BALANCE s.signer s.amount M))) (ensure-apart s.target K)
+  transfer_apart : Apart transfer
+  unfolding transfer raise lower put_wallet
+  transfer_apart s K =
+      ap (λ (M : Ledger). done 0 (raise BALANCE s.target s.amount (lower BALANCE s.signer s.amount M))) (ensure_apart s.target K)
 
-  open-apart : Apart openEscrow
-  unfolding openEscrow raise lower putWallet newEscrow putHead
-  open-apart s K =
-      ap (λ (M : Ledger). done (escrowCount K + 1) (newEscrow (escrowOf s) (raise LOCKED s.signer s.amount (lower BALANCE s.signer s.amount M))))
-      (ensure-apart s.target K)
+  open_apart : Apart open_escrow
+  unfolding open_escrow raise lower put_wallet new_escrow put_head
+  open_apart s K =
+      ap (λ (M : Ledger). done (escrow_count K + 1) (new_escrow (escrow_of s) (raise LOCKED s.signer s.amount (lower BALANCE s.signer s.amount M))))
+      (ensure_apart s.target K)
 
   -- a release and a refund
-  ending-apart : (state : ℕ) → Apart (λ s K. done 0 (endEscrow state s.now s.signer (s.target - 1) K))
-  ending-apart state s K = ap (done 0) (end-apart state s.now s.signer (s.target - 1) K)
+  ending_apart : (state : ℕ) → Apart (λ s K. done 0 (end_escrow state s.now s.signer (s.target - 1) K))
+  ending_apart state s K = ap (done 0) (end_apart state s.now s.signer (s.target - 1) K)
 
-  claim-apart : Apart claim
-  unfolding claim newReceipt putHead
-  claim-apart s K = refl
+  claim_apart : Apart claim
+  unfolding claim new_receipt put_head
+  claim_apart s K = refl
 
-  accepts-apart : Apart accept
+  accepts_apart : Apart accept
   unfolding accept
-  accepts-apart s K = accept-apart s.now s.signer (s.target - 1) K
+  accepts_apart s K = accept_apart s.now s.signer (s.target - 1) K
 
-  dispute-apart : Apart dispute
+  dispute_apart : Apart dispute
   unfolding dispute
-  dispute-apart s K = ap (done 0) (close-apart _ s.now s.signer (s.target - 1) K)
+  dispute_apart s K = ap (done 0) (close_apart _ s.now s.signer (s.target - 1) K)
 
-  sweep-apart : Apart sweep
+  sweep_apart : Apart sweep
   unfolding sweep
-  sweep-apart s K = ap (λ (z : Sweep). done z.closed z.tables) (swept-apart s.now s.amount K)
+  sweep_apart s K = ap (λ (z : Sweep). done z.closed z.tables) (swept_apart s.now s.amount K)
 
-  freeze-apart : Apart freeze
-  unfolding freeze putHead putWallet
-  freeze-apart s K = ap (done 0) (chosen (setJournal j) (eqb s.target 0) _ _ _ _ refl refl)
+  freeze_apart : Apart freeze
+  unfolding freeze put_head put_wallet
+  freeze_apart s K = ap (done 0) (chosen (set_journal j) (eqb s.target 0) _ _ _ _ refl refl)
 
-  caps-apart : Apart caps
-  unfolding caps putWallet
-  caps-apart s K = refl
+  caps_apart : Apart caps
+  unfolding caps put_wallet
+  caps_apart s K = refl
 
   shut_apart : Apart close
-  unfolding close putWallet
+  unfolding close put_wallet
   shut_apart s K = refl
 
   -- each of a list of operations; so whichever of them it is, and past their end
@@ -139,22 +139,22 @@ module _ (j : List ℕ) where
     none : Each []
     more : {f : Submission → Ledger → Done} {fs : List (Submission → Ledger → Done)} → Apart f → Each fs → Each (f ∷ fs)
 
-  any-apart : {fs : List (Submission → Ledger → Done)} → Each fs → (n : ℕ) → Apart (get_or fs n idle)
-  any-apart none n s K = refl
-  any-apart (more a rest) zero s K = a s K
-  any-apart (more a rest) (suc n) s K = any-apart rest n s K
+  any_apart : {fs : List (Submission → Ledger → Done)} → Each fs → (n : ℕ) → Apart (get_or fs n idle)
+  any_apart none n s K = refl
+  any_apart (more a rest) zero s K = a s K
+  any_apart (more a rest) (suc n) s K = any_apart rest n s K
 
-  each-apart : Each (operationsBy Old)
+  each_apart : Each (operations_by Old)
   unfolding release refund
-  each-apart =
-      more grant-apart (more transfer-apart (more open-apart (more (ending-apart _) (more (ending-apart _)
-      (more claim-apart (more accepts-apart (more dispute-apart (more sweep-apart
-      (more freeze-apart (more caps-apart (more shut_apart none)))))))))))
+  each_apart =
+      more grant_apart (more transfer_apart (more open_apart (more (ending_apart _) (more (ending_apart _)
+      (more claim_apart (more accepts_apart (more dispute_apart (more sweep_apart
+      (more freeze_apart (more caps_apart (more shut_apart none)))))))))))
 
-  pub operate-apart : (s : Submission) (K : Ledger) → operateBy Old s (setJournal j K) ≡ with-journal (operateBy Old s K)
-  unfolding operateBy
-  operate-apart s K = any-apart each-apart (s.op - 1) s K
+  pub operate_apart : (s : Submission) (K : Ledger) → operate_by Old s (set_journal j K) ≡ with_journal (operate_by Old s K)
+  unfolding operate_by
+  operate_apart s K = any_apart each_apart (s.op - 1) s K
 
 -- so it leaves the journal as it was
-pub keeps-journal : (s : Submission) (K : Ledger) → (operateBy Old s K).after.journal ≡ K.journal
-keeps-journal s K = ap (λ (d : Done). d.after.journal) (operate-apart K.journal s K)
+pub keeps_journal : (s : Submission) (K : Ledger) → (operate_by Old s K).after.journal ≡ K.journal
+keeps_journal s K = ap (λ (d : Done). d.after.journal) (operate_apart K.journal s K)

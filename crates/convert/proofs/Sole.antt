@@ -3,8 +3,8 @@ use mathlib.Core.List.{List}
 use Prim.Native.Nat.{ℕ}
 use Rattle.rules.specs.Results.{Sole}
 use Rattle.rules.proofs.Sole.{one}
-use Rattle.convert.proofs.convert.Kinds as convert-kinds
-use Rattle.convert.proofs.convert.Reads as convert-reads
+use Rattle.convert.proofs.convert.Kinds as convert_kinds
+use Rattle.convert.proofs.convert.Reads as convert_reads
 
-pub sole-convert : Sole convert-kinds.ps convert-kinds.r convert-reads.Learnt (List ℕ) (λ κs x e. e.0.now)
-sole-convert κs a x y v w p q = one p q
+pub sole_convert : Sole convert_kinds.ps convert_kinds.r convert_reads.Learnt (List ℕ) (λ κs x e. e.0.now)
+sole_convert κs a x y v w p q = one p q

@@ -2,8 +2,8 @@
 #![tactic(auto)]
 
 ghost use Rattle.std.specs.Prelude.{◌≡◌, ◌+◌, ◌≤◌, length};
-ghost use Rattle.rules.specs.Limits.{ENTRY-BYTES};
-ghost use Rattle.rules.specs.Convert.{newOperation, newFlags, convertedAt, converted};
+ghost use Rattle.rules.specs.Limits.{ENTRY_BYTES};
+ghost use Rattle.rules.specs.Convert.{new_operation, new_flags, converted_at, converted};
 
 use rules::Form;
 use rules::limits::{
@@ -13,14 +13,14 @@ use rules::limits::{
 
 // The operation of a record, by the one that the old form reads.
 fn new_operation(old: u8) -> u8
-    ensures { result ≡ newOperation old }
+    ensures { result ≡ new_operation old }
 {
     if old == OLD_DISPUTE { REPLY } else { old }
 }
 
 // Its flags. An accept has no bit but that of the signature.
 fn new_flags(old: u8, flags: u8) -> u8
-    ensures { result ≡ newFlags old flags }
+    ensures { result ≡ new_flags old flags }
 {
     if old == OLD_ACCEPT {
         flags / SIGNATURE_HELD % 2 + ACCEPTS
@@ -31,8 +31,8 @@ fn new_flags(old: u8, flags: u8) -> u8
 
 // One entry. Its answer and the rest of its record stay.
 fn convert_at(recording: &mut [u8], at: usize)
-    requires { at + ENTRY-BYTES ≤ length recording.old }
-    ensures { recording.new ≡ convertedAt at recording.old }
+    requires { at + ENTRY_BYTES ≤ length recording.old }
+    ensures { recording.new ≡ converted_at at recording.old }
 {
     let end = at + RECORD_BYTES;
     let read = record::read_by(Form::Old, &recording[at..end]);

@@ -9,125 +9,125 @@ use native.Mathlib.Omega.{arith}
 use lib.Dec.{eqb}
 use lib.ListN.{get_or}
 use borrow.Author.Tests.{eq-eqb, ne_eqb}
-use Rattle.rules.specs.Limits.{GRID-ROWS, ANSWERS, LAST-FIGURE, FIGURES}
+use Rattle.rules.specs.Limits.{GRID_ROWS, ANSWERS, LAST_FIGURE, FIGURES}
 use Rattle.rules.specs.Ledger.{Ledger, Outcome, outcome}
 use Rattle.rules.specs.Record.{decode, read_of}
-use Rattle.rules.specs.Report.{Grid, cell, raised, Report, reportOf, gridRow, addsOf, Line, line_of, sums, tallied, firstPast, passing, stopped}
+use Rattle.rules.specs.Report.{Grid, cell, raised, Report, report_of, grid_row, adds_of, Line, line_of, sums, tallied, first_past, passing, stopped}
 use Rattle.rules.specs.Settle.{Done, done, settle}
-use Rattle.rules.specs.Submit.{decided, finish, submitReadBy, submitBy, submit}
+use Rattle.rules.specs.Submit.{decided, finish, submit_read_by, submit_by, submit}
 use Rattle.rules.specs.declared.Read.{Read}
 use Rattle.rules.proofs.Adds.{adds_none}
-use Rattle.rules.proofs.Bounded.{passing-none}
-use Rattle.rules.proofs.Demand12.{on-the-list}
+use Rattle.rules.proofs.Bounded.{passing_none}
+use Rattle.rules.proofs.Demand12.{on_the_list}
 use Rattle.rules.proofs.Tallies.{row_listed}
-use Rattle.counting.specs.Turn.{turned, turnBy, turn}
+use Rattle.counting.specs.Turn.{turned, turn_by, turn}
 
 -- ---- what was decided, applied
 
-pub apply-refused : (n : ℕ) (d : Done) (L : Ledger) → n ≢ 0 → L ≡ (finish n d L).left
-apply-refused zero d L h = absurd (h refl)
-apply-refused (suc n) d L h = refl
+pub apply_refused : (n : ℕ) (d : Done) (L : Ledger) → n ≢ 0 → L ≡ (finish n d L).left
+apply_refused zero d L h = absurd (h refl)
+apply_refused (suc n) d L h = refl
 
-pub apply-settled : (n : ℕ) (d : Done) (L K : Ledger) {w : ℕ} → n ≡ 0 → done w K ≡ d → K ≡ (finish n d L).left
-apply-settled zero d L K z e = ap (λ (x : Done). x.after) e
-apply-settled (suc n) d L K z e = absurd (omega (arith, z))
+pub apply_settled : (n : ℕ) (d : Done) (L K : Ledger) {w : ℕ} → n ≡ 0 → done w K ≡ d → K ≡ (finish n d L).left
+apply_settled zero d L K z e = ap (λ (x : Done). x.after) e
+apply_settled (suc n) d L K z e = absurd (omega (arith, z))
 
 -- and what it adds
 
-pub plans-none : (L : Ledger) (d : Read) → d.number ≢ 0 → (0 ∷ 0 ∷ 0 ∷ 0 ∷ 0 ∷ []) ≡ addsOf L d.submission (finish d.number (settle d.submission L) L)
-plans-none L d h = go d.number h
+pub plans_none : (L : Ledger) (d : Read) → d.number ≢ 0 → (0 ∷ 0 ∷ 0 ∷ 0 ∷ 0 ∷ []) ≡ adds_of L d.submission (finish d.number (settle d.submission L) L)
+plans_none L d h = go d.number h
   where
-    go : (n : ℕ) → n ≢ 0 → (0 ∷ 0 ∷ 0 ∷ 0 ∷ 0 ∷ []) ≡ addsOf L d.submission (finish n (settle d.submission L) L)
+    go : (n : ℕ) → n ≢ 0 → (0 ∷ 0 ∷ 0 ∷ 0 ∷ 0 ∷ []) ≡ adds_of L d.submission (finish n (settle d.submission L) L)
     go zero h = absurd (h refl)
     go (suc n) h = sym (adds_none L d.submission (suc n) 0 h)
 
-pub plans-so : (L : Ledger) (d : Read) {x : List ℕ} → d.number ≡ 0
-    → x ≡ addsOf L d.submission (outcome 0 (settle d.submission L).word (settle d.submission L).after)
-    → x ≡ addsOf L d.submission (finish d.number (settle d.submission L) L)
-plans-so L d z e = e ∙ ap (λ (n : ℕ). addsOf L d.submission (finish n (settle d.submission L) L)) (sym z)
+pub plans_so : (L : Ledger) (d : Read) {x : List ℕ} → d.number ≡ 0
+    → x ≡ adds_of L d.submission (outcome 0 (settle d.submission L).word (settle d.submission L).after)
+    → x ≡ adds_of L d.submission (finish d.number (settle d.submission L) L)
+plans_so L d z e = e ∙ ap (λ (n : ℕ). adds_of L d.submission (finish n (settle d.submission L) L)) (sym z)
 
 -- ---- an entry
 
 -- what the code has found of an entry: what was decided, the row of its operation byte, and what it will add
 pub record Found (L : Ledger) (b : List ℕ) (d : Read) (row : ℕ) (adds : List ℕ) : Type 0 where
   pub is : d ≡ decided L b
-  pub row_is : row ≡ gridRow (get_or b 2 0)
-  pub adds-is : adds ≡ addsOf L d.submission (finish d.number (settle d.submission L) L)
+  pub row_is : row ≡ grid_row (get_or b 2 0)
+  pub adds_is : adds ≡ adds_of L d.submission (finish d.number (settle d.submission L) L)
 
 abbrev as_line : ℕ → ℕ → List ℕ → Line
 as_line row column adds = record { row = row; column = column; adds = adds }
 
 module _ {L : Ledger} {b : List ℕ} {d : Read} {row : ℕ} {adds : List ℕ} (found : Found L b d row adds) where
   -- what was decided is what the submission comes to
-  pub comes-to : finish d.number (settle d.submission L) L ≡ submit L b
-  unfolding submitBy submitReadBy
-  comes-to = ap (λ (x : Read). finish x.number (settle x.submission L) L) found.is
+  pub comes_to : finish d.number (settle d.submission L) L ≡ submit L b
+  unfolding submit_by submit_read_by
+  comes_to = ap (λ (x : Read). finish x.number (settle x.submission L) L) found.is
 
   number_of : (n : ℕ) (x : Done) → (finish n x L).number ≡ n
   number_of zero x = refl
   number_of (suc n) x = refl
 
   number_is : d.number ≡ (submit L b).number
-  number_is = sym (number_of d.number (settle d.submission L)) ∙ ap (λ (o : Outcome). o.number) comes-to
+  number_is = sym (number_of d.number (settle d.submission L)) ∙ ap (λ (o : Outcome). o.number) comes_to
 
-  adds-are : adds ≡ addsOf L (read_of b).submission (submit L b)
-  adds-are = found.adds-is ∙ ap₂ (λ (x : Read) (o : Outcome). addsOf L x.submission o) found.is comes-to
+  adds_are : adds ≡ adds_of L (read_of b).submission (submit L b)
+  adds_are = found.adds_is ∙ ap₂ (λ (x : Read) (o : Outcome). adds_of L x.submission o) found.is comes_to
 
-  line-is : as_line row d.number adds ≡ line_of L b (submit L b)
+  line_is : as_line row d.number adds ≡ line_of L b (submit L b)
   unfolding decode
-  line-is =
+  line_is =
       ap (λ (i : ℕ). as_line i d.number adds) found.row_is
-      ∙ ap₂ (λ (j : ℕ) (a : List ℕ). as_line (gridRow (get_or b 2 0)) j a) number_is adds-are
+      ∙ ap₂ (λ (j : ℕ) (a : List ℕ). as_line (grid_row (get_or b 2 0)) j a) number_is adds_are
 
   -- its cell is in the grid
-  pub row_in : row < GRID-ROWS
+  pub row_in : row < GRID_ROWS
   row_in = omega (arith, row_listed (get_or b 2 0), found.row_is)
 
-  pub column-in : d.number < ANSWERS
-  column-in = omega (arith, on-the-list L b, number_is)
+  pub column_in : d.number < ANSWERS
+  column_in = omega (arith, on_the_list L b, number_is)
 
-  module _ (grid : Grid) (figures named : List ℕ) {count figure : ℕ} (counted : count ≡ cell grid row d.number) (first : figure ≡ firstPast 1 (sums figures adds ++ ((count + 1) ∷ []))) where
+  module _ (grid : Grid) (figures named : List ℕ) {count figure : ℕ} (counted : count ≡ cell grid row d.number) (first : figure ≡ first_past 1 (sums figures adds ++ ((count + 1) ∷ []))) where
     R : Report
-    R = reportOf grid figures named
+    R = report_of grid figures named
 
     l : Line
     l = as_line row d.number adds
 
-    figure-is : figure ≡ passing R l
+    figure_is : figure ≡ passing R l
     unfolding passing R l
-    figure-is = first ∙ ap (λ (n : ℕ). firstPast 1 (sums figures adds ++ ((n + 1) ∷ []))) counted
+    figure_is = first ∙ ap (λ (n : ℕ). first_past 1 (sums figures adds ++ ((n + 1) ∷ []))) counted
 
     M : Ledger
     M = (finish d.number (settle d.submission L) L).left
 
     -- the turn, by what the code has found
-    turn_is : turnBy R L M l ≡ turn R L b
+    turn_is : turn_by R L M l ≡ turn R L b
     unfolding turn l M
-    turn_is = ap₂ (λ (K : Ledger) (x : Line). turnBy R L K x) (ap (λ (o : Outcome). o.left) comes-to) line-is
+    turn_is = ap₂ (λ (K : Ledger) (x : Line). turn_by R L K x) (ap (λ (o : Outcome). o.left) comes_to) line_is
 
-    pub stops-here : figure ≢ 0 → turned (reportOf grid figures (figure ∷ row ∷ d.number ∷ [])) L ≡ turn (reportOf grid figures named) L b
+    pub stops_here : figure ≢ 0 → turned (report_of grid figures (figure ∷ row ∷ d.number ∷ [])) L ≡ turn (report_of grid figures named) L b
     unfolding R l stopped
-    stops-here h =
-        let f : eqb (passing R l) 0 ≡ false = ne_eqb (passing R l) 0 (λ z. h (figure-is ∙ z)) in
-        ap (λ (n : ℕ). turned (reportOf grid figures (n ∷ row ∷ d.number ∷ [])) L) figure-is
+    stops_here h =
+        let f : eqb (passing R l) 0 ≡ false = ne_eqb (passing R l) 0 (λ z. h (figure_is ∙ z)) in
+        ap (λ (n : ℕ). turned (report_of grid figures (n ∷ row ∷ d.number ∷ [])) L) figure_is
         ∙ sym (ap (λ (x : Bool). cond x (turned (tallied R l) M) (turned (stopped R l) L)) f) ∙ turn_is
 
     -- nothing passes: what is added fits, and so does one more in the cell
     module _ (none : figure ≡ 0) where
-      fits : ((k : ℕ) → k < FIGURES → get_or figures k 0 + get_or adds k 0 ≤ LAST-FIGURE) × (cell grid row d.number + 1 ≤ LAST-FIGURE)
+      fits : ((k : ℕ) → k < FIGURES → get_or figures k 0 + get_or adds k 0 ≤ LAST_FIGURE) × (cell grid row d.number + 1 ≤ LAST_FIGURE)
       unfolding R l
-      fits = passing-none R l (sym figure-is ∙ none)
+      fits = passing_none R l (sym figure_is ∙ none)
 
-      pub figures-fit : (k : ℕ) → k < FIGURES → get_or figures k 0 + get_or adds k 0 ≤ LAST-FIGURE
-      figures-fit = fits.0
+      pub figures_fit : (k : ℕ) → k < FIGURES → get_or figures k 0 + get_or adds k 0 ≤ LAST_FIGURE
+      figures_fit = fits.0
 
-      pub cell-fits : cell grid row d.number + 1 ≤ LAST-FIGURE
-      cell-fits = fits.1
+      pub cell_fits : cell grid row d.number + 1 ≤ LAST_FIGURE
+      cell_fits = fits.1
 
-      pub counts-here : {grid' : Grid} {figures' : List ℕ} {L' : Ledger} → figures' ≡ sums figures adds → L' ≡ (finish d.number (settle d.submission L) L).left
-          → grid' ≡ raised grid row d.number → turned (reportOf grid' figures' named) L' ≡ turn (reportOf grid figures named) L b
+      pub counts_here : {grid' : Grid} {figures' : List ℕ} {L' : Ledger} → figures' ≡ sums figures adds → L' ≡ (finish d.number (settle d.submission L) L).left
+          → grid' ≡ raised grid row d.number → turned (report_of grid' figures' named) L' ≡ turn (report_of grid figures named) L b
       unfolding R l M tallied
-      counts-here {grid'} {figures'} {L'} x y z =
-          let t : eqb (passing R l) 0 ≡ true = eq-eqb (passing R l) 0 (sym figure-is ∙ none) in
-          ap₂ (λ (g : Grid) (f : List ℕ). turned (reportOf g f named) L') z x ∙ ap (turned (tallied R l)) y
+      counts_here {grid'} {figures'} {L'} x y z =
+          let t : eqb (passing R l) 0 ≡ true = eq-eqb (passing R l) 0 (sym figure_is ∙ none) in
+          ap₂ (λ (g : Grid) (f : List ℕ). turned (report_of g f named) L') z x ∙ ap (turned (tallied R l)) y
           ∙ sym (ap (λ (w : Bool). cond w (turned (tallied R l) M) (turned (stopped R l) L)) t) ∙ turn_is

@@ -4,9 +4,9 @@
 
 ghost use Rattle.std.specs.Prelude.{◌≡◌, length};
 ghost use Rattle.rules.specs.Ledger.{Ledger, Sized};
-ghost use Rattle.rules.specs.Limits.{RECORD-BYTES};
-ghost use Rattle.rules.specs.Moments.{tables, lent, any, ◌of-edition◌, ◌with-header◌, ◌with-escrows◌, ◌with-receipts◌};
-ghost use Rattle.rules.specs.Report.{reportOf, addsOf};
+ghost use Rattle.rules.specs.Limits.{RECORD_BYTES};
+ghost use Rattle.rules.specs.Moments.{tables, lent, any, ◌of_edition◌, ◌with_header◌, ◌with_escrows◌, ◌with_receipts◌};
+ghost use Rattle.rules.specs.Report.{report_of, adds_of};
 ghost use Rattle.rules.specs.Settle.{settle};
 ghost use Rattle.rules.specs.Sound.{Ready};
 ghost use Rattle.rules.specs.Submit.{finish};
@@ -25,7 +25,7 @@ fn planned(
     decided: Read,
 ) -> [u64; FIGURES]
     requires { Plans edition header.now escrows.now receipts.now decided }
-    ensures { (K : Ledger) → let L = any K of-edition edition with-header header with-escrows escrows with-receipts receipts in (decided.number ≡ 0 → Settles L.entry decided.submission) → result ≡ addsOf L.entry decided.submission (finish decided.number (settle decided.submission L.entry) L.entry) }
+    ensures { (K : Ledger) → let L = any K of_edition edition with_header header with_escrows escrows with_receipts receipts in (decided.number ≡ 0 → Settles L.entry decided.submission) → result ≡ adds_of L.entry decided.submission (finish decided.number (settle decided.submission L.entry) L.entry) }
 {
     if decided.number != 0 {
         return [0, 0, 0, 0, 0];
@@ -73,8 +73,8 @@ pub fn count_entry(
     figures: &mut [u64; FIGURES],
     named: &mut [u64; NAMED],
 ) -> [[u64; ANSWERS]; GRID_ROWS]
-    requires { Sized edition × Ready (tables edition header wallets escrows receipts journal) × (length bytes.now ≡ RECORD-BYTES) }
-    ensures { let L = lent edition header wallets escrows receipts journal in turned (reportOf result figures.new named.new) L.exit ≡ turn (reportOf grid figures.old named.old) L.entry bytes.now }
+    requires { Sized edition × Ready (tables edition header wallets escrows receipts journal) × (length bytes.now ≡ RECORD_BYTES) }
+    ensures { let L = lent edition header wallets escrows receipts journal in turned (report_of result figures.new named.new) L.exit ≡ turn (report_of grid figures.old named.old) L.entry bytes.now }
 {
     let decided = editions::decide(edition, header, wallets, escrows, receipts, journal, bytes);
     let row = grid::row_of(bytes[OPERATION_AT]);

@@ -4,7 +4,7 @@
 #![tactic(auto)]
 
 ghost use Rattle.std.specs.Prelude.{◌≡◌, length, replicate};
-ghost use Rattle.rules.specs.Ledger.{Sized, outcome, lengthsRight, fresh};
+ghost use Rattle.rules.specs.Ledger.{Sized, outcome, lengths_right, fresh};
 ghost use Rattle.rules.specs.Moments.{tables, lent};
 ghost use Rattle.rules.specs.Sound.{Ready};
 ghost use Rattle.rules.specs.Submit.{decided, submit};
@@ -25,7 +25,7 @@ pub fn lengths_right(
     journal: &[u64],
 ) -> bool
     requires { Sized edition }
-    ensures { result ≡ lengthsRight (lent edition header wallets escrows receipts journal).entry }
+    ensures { result ≡ lengths_right (lent edition header wallets escrows receipts journal).entry }
 {
     let w = rows::table_right(wallets, WALLET_LEN, MAX_WALLETS);
     let e = rows::table_right(escrows, edition.escrow, MAX_ESCROWS);

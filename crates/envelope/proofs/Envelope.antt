@@ -6,11 +6,11 @@ use Prim.Native.Nat.{ℕ, ◌+◌, ◌-◌, ◌≤◌}
 use native.Mathlib.Omega.{arith}
 use lib.ListN.{get_or}
 use lib.Dec.{T, eqb, ltb}
-use Rattle.rules.specs.Limits.{GRANT, SWEEP, FREEZE, CAPS, CLOSE, LAST-OPERATION, SIGNATURE-HELD, ADMIN, SYSTEM-FROZEN, CLOCK, ENTRIES, MAX-SKEW-MS, MAX-ENVELOPE-MS}
+use Rattle.rules.specs.Limits.{GRANT, SWEEP, FREEZE, CAPS, CLOSE, LAST_OPERATION, SIGNATURE_HELD, ADMIN, SYSTEM_FROZEN, CLOCK, ENTRIES, MAX_SKEW_MS, MAX_ENVELOPE_MS}
 use Rattle.rules.specs.Table.{every}
-use Rattle.rules.specs.Ledger.{ledgerOf}
+use Rattle.rules.specs.Ledger.{ledger_of}
 use Rattle.rules.specs.Sound.{between}
-use Rattle.rules.specs.Refusals.{first, one_of, signed, clear, seenIn, seen, envelopeRefusals}
+use Rattle.rules.specs.Refusals.{first, one_of, signed, clear, seen_in, seen, envelope_refusals}
 use Rattle.rules.specs.declared.Edition.{Edition}
 use Rattle.rules.specs.declared.Submission.{Submission}
 use Rattle.rules.proofs.Below.{below}
@@ -26,25 +26,25 @@ same false false t = refl
 abbrev agree : ℕ → Bool
 agree k = let b = not (eqb (k + 1) SWEEP) in cond (one_of signed (k + 1)) b (not b)
 
-pub signed_is : (op : ℕ) → 1 ≤ op → op ≤ LAST-OPERATION → one_of signed op ≡ not (eqb op SWEEP)
+pub signed_is : (op : ℕ) → 1 ≤ op → op ≤ LAST_OPERATION → one_of signed op ≡ not (eqb op SWEEP)
 unfolding every
 signed_is op lo hi =
     let e : op - 1 + 1 ≡ op = omega arith in
-    subst (λ (n : ℕ). one_of signed n ≡ not (eqb n SWEEP)) e (same _ _ (below agree LAST-OPERATION tt (op - 1) (omega arith)))
+    subst (λ (n : ℕ). one_of signed n ≡ not (eqb n SWEEP)) e (same _ _ (below agree LAST_OPERATION tt (op - 1) (omega arith)))
 
-pub refusal-by :
+pub refusal_by :
     (ed : Edition) (h w e r j : List ℕ) (s : Submission) (r4 r5 r6 r7 r8 r9 r10 r11 : ℕ) (used : Bool)
     → 1 ≤ s.op
-    → s.op ≤ LAST-OPERATION
-    → used ≡ seenIn j (get_or h ENTRIES 0) s.signer s.nonce
+    → s.op ≤ LAST_OPERATION
+    → used ≡ seen_in j (get_or h ENTRIES 0) s.signer s.nonce
     → r11 ≡ cond (not (eqb s.op SWEEP) && used) 11 0
-    → r10 ≡ cond (not (eqb s.op SWEEP) && ltb (s.issued + MAX-ENVELOPE-MS) s.expires) 10 r11
+    → r10 ≡ cond (not (eqb s.op SWEEP) && ltb (s.issued + MAX_ENVELOPE_MS) s.expires) 10 r11
     → r9 ≡ cond (not (eqb s.op SWEEP) && ltb s.expires s.now) 9 r10
-    → r8 ≡ cond (not (eqb s.op SWEEP) && ltb (s.now + MAX-SKEW-MS) s.issued) 8 r9
+    → r8 ≡ cond (not (eqb s.op SWEEP) && ltb (s.now + MAX_SKEW_MS) s.issued) 8 r9
     → r7 ≡ cond ((eqb s.op GRANT || (eqb s.op FREEZE || (eqb s.op CAPS || eqb s.op CLOSE))) && clear s ADMIN) 7 r8
-    → r6 ≡ cond (not (eqb s.op SWEEP) && clear s SIGNATURE-HELD) 6 r7
-    → r5 ≡ cond (between GRANT SWEEP s.op && eqb (get_or h SYSTEM-FROZEN 0) 1) 5 r6
+    → r6 ≡ cond (not (eqb s.op SWEEP) && clear s SIGNATURE_HELD) 6 r7
+    → r5 ≡ cond (between GRANT SWEEP s.op && eqb (get_or h SYSTEM_FROZEN 0) 1) 5 r6
     → r4 ≡ cond (ltb s.now (get_or h CLOCK 0)) 4 r5
-    → r4 ≡ first (envelopeRefusals (ledgerOf ed h w e r j) s)
-unfolding envelopeRefusals seen seenIn
-refusal-by ed h w e r j s r4 r5 r6 r7 r8 r9 r10 r11 used lo hi u c11 c10 c9 c8 c7 c6 c5 c4 = cc (signed_is s.op lo hi, or-false (eqb s.op CLOSE))
+    → r4 ≡ first (envelope_refusals (ledger_of ed h w e r j) s)
+unfolding envelope_refusals seen seen_in
+refusal_by ed h w e r j s r4 r5 r6 r7 r8 r9 r10 r11 used lo hi u c11 c10 c9 c8 c7 c6 c5 c4 = cc (signed_is s.op lo hi, or-false (eqb s.op CLOSE))

@@ -2,10 +2,10 @@
 #![tactic(auto)]
 
 ghost use Rattle.std.specs.Prelude.{◌≡◌, ◌*◌, ◌≤◌, ◌<◌, get_or, length};
-ghost use Rattle.rules.specs.Limits.{JOURNAL-LEN, ENTRIES, LAST-TIME-MS, LAST-OPERATION};
+ghost use Rattle.rules.specs.Limits.{JOURNAL_LEN, ENTRIES, LAST_TIME_MS, LAST_OPERATION};
 ghost use Rattle.rules.specs.Ledger.{Ledger};
-ghost use Rattle.rules.specs.Moments.{any, ◌with-header◌, ◌with-journal◌};
-ghost use Rattle.rules.specs.Refusals.{first, seenIn, envelopeRefusals};
+ghost use Rattle.rules.specs.Moments.{any, ◌with_header◌, ◌with_journal◌};
+ghost use Rattle.rules.specs.Refusals.{first, seen_in, envelope_refusals};
 
 use rules::Submission;
 use rules::limits::{
@@ -15,8 +15,8 @@ use rules::limits::{
 
 // Whether one of the first n journal rows has signer and nonce. The newest is looked at first, as nearly every retry comes within a minute.
 pub fn seen(journal: &[u64], n: usize, signer: u64, nonce: u64) -> bool
-    requires { n * JOURNAL-LEN ≤ length journal.now }
-    ensures { result ≡ seenIn journal.now n signer nonce }
+    requires { n * JOURNAL_LEN ≤ length journal.now }
+    ensures { result ≡ seen_in journal.now n signer nonce }
 {
     // no return from the loop: with one, the compiler puts a branch between the two comparisons, and it is guessed wrong where a signer has many rows
     let mut found = false;
@@ -31,8 +31,8 @@ pub fn seen(journal: &[u64], n: usize, signer: u64, nonce: u64) -> bool
 
 // The first of checks 4 to 11 that holds, or 0. Each condition is worked out, whether or not an earlier one holds.
 pub fn envelope_refusal(header: &[u64], journal: &[u64], s: Submission) -> u64
-    requires { (ENTRIES < length header.now) × (get_or header.now ENTRIES 0 * JOURNAL-LEN ≤ length journal.now) × (1 ≤ s.op) × (s.op ≤ LAST-OPERATION) × (s.now ≤ LAST-TIME-MS) × (s.issued ≤ LAST-TIME-MS) }
-    ensures { (K : Ledger) → let L = any K with-header header with-journal journal in result ≡ first (envelopeRefusals L.entry s) }
+    requires { (ENTRIES < length header.now) × (get_or header.now ENTRIES 0 * JOURNAL_LEN ≤ length journal.now) × (1 ≤ s.op) × (s.op ≤ LAST_OPERATION) × (s.now ≤ LAST_TIME_MS) × (s.issued ≤ LAST_TIME_MS) }
+    ensures { (K : Ledger) → let L = any K with_header header with_journal journal in result ≡ first (envelope_refusals L.entry s) }
 {
     let clock = header[CLOCK];
     let frozen = header[SYSTEM_FROZEN];

@@ -7,31 +7,31 @@ use lib.Dec.{eqb}
 use lib.ListN.{get_or}
 use Rattle.rules.specs.Limits.{GRANT, TRANSFER, OPEN, CLAIM, FREEZE, CAPS, CLOSE, WALLETS}
 use Rattle.rules.specs.Refusals.{one_of, signs, targets}
-use Rattle.rules.specs.Wallets.{lookUp}
+use Rattle.rules.specs.Wallets.{look_up}
 use Rattle.rules.specs.declared.Submission.{Submission}
 use Rattle.rules.specs.declared.WalletState.{WalletState}
 use Rattle.finding.specs.declared.Parties.{Parties}
-use Rattle.finding.specs.Parties.{lookUpIf, partiesOf}
+use Rattle.finding.specs.Parties.{look_up_if, parties_of}
 
-pub asked : (b : Bool) (wallets : List ℕ) (n id : ℕ) → b ≡ true → lookUpIf b wallets n id ≡ lookUp wallets n id
+pub asked : (b : Bool) (wallets : List ℕ) (n id : ℕ) → b ≡ true → look_up_if b wallets n id ≡ look_up wallets n id
 asked b wallets n id e = rw e
 
 -- the two tests as the code joins them, and what they find
-pub by-parties : (h w : List ℕ) (s : Submission) {signer target : WalletState}
-    → signer ≡ lookUpIf (eqb s.op TRANSFER || (eqb s.op OPEN || eqb s.op CLAIM)) w (get_or h WALLETS 0) s.signer
+pub by_parties : (h w : List ℕ) (s : Submission) {signer target : WalletState}
+    → signer ≡ look_up_if (eqb s.op TRANSFER || (eqb s.op OPEN || eqb s.op CLAIM)) w (get_or h WALLETS 0) s.signer
     → target
-    ≡ lookUpIf
+    ≡ look_up_if
     (eqb s.op GRANT || (eqb s.op TRANSFER || (eqb s.op OPEN || (eqb s.op CLAIM || (eqb s.op FREEZE || (eqb s.op CAPS || eqb s.op CLOSE))))))
     w (get_or h WALLETS 0) s.target
-    → record { signer = signer; target = target } ≡ partiesOf h w s
-unfolding partiesOf
-by-parties h w s a b = rw (a, b, or-false (eqb s.op CLAIM), or-false (eqb s.op CLOSE))
+    → record { signer = signer; target = target } ≡ parties_of h w s
+unfolding parties_of
+by_parties h w s a b = rw (a, b, or-false (eqb s.op CLAIM), or-false (eqb s.op CLOSE))
 
-module _ (header wallets : List ℕ) (s : Submission) {p : Parties} (found : p ≡ partiesOf header wallets s) where
-  pub signer-found : one_of signs s.op ≡ true → p.signer ≡ lookUp wallets (get_or header WALLETS 0) s.signer
-  unfolding partiesOf
-  signer-found e = ap (λ (x : Parties). x.signer) found ∙ asked _ wallets _ _ e
+module _ (header wallets : List ℕ) (s : Submission) {p : Parties} (found : p ≡ parties_of header wallets s) where
+  pub signer_found : one_of signs s.op ≡ true → p.signer ≡ look_up wallets (get_or header WALLETS 0) s.signer
+  unfolding parties_of
+  signer_found e = ap (λ (x : Parties). x.signer) found ∙ asked _ wallets _ _ e
 
-  pub target_found : one_of targets s.op ≡ true → p.target ≡ lookUp wallets (get_or header WALLETS 0) s.target
-  unfolding partiesOf
+  pub target_found : one_of targets s.op ≡ true → p.target ≡ look_up wallets (get_or header WALLETS 0) s.target
+  unfolding parties_of
   target_found e = ap (λ (x : Parties). x.target) found ∙ asked _ wallets _ _ e

@@ -3,8 +3,8 @@
 #![tactic(auto)]
 
 ghost use Rattle.std.specs.Prelude.{◌≡◌, ◌*◌, ◌≤◌, ◌<◌, get_or, length};
-ghost use Rattle.rules.specs.Limits.{WALLET-LEN, WALLETS};
-ghost use Rattle.finding.specs.Parties.{lookUpIf, partiesOf};
+ghost use Rattle.rules.specs.Limits.{WALLET_LEN, WALLETS};
+ghost use Rattle.finding.specs.Parties.{look_up_if, parties_of};
 
 use rules::limits::{CAPS, CLAIM, CLOSE, FREEZE, GRANT, OPEN, TRANSFER, WALLETS};
 use rules::{Submission, WalletState};
@@ -18,8 +18,8 @@ pub struct Parties {
 
 // The wallet of an id, if it is asked for.
 fn find_if(asked: bool, wallets: &[u64], n: usize, id: u64) -> WalletState
-    requires { n * WALLET-LEN ≤ length wallets.now }
-    ensures { result ≡ lookUpIf asked wallets.now n id }
+    requires { n * WALLET_LEN ≤ length wallets.now }
+    ensures { result ≡ look_up_if asked wallets.now n id }
 {
     if asked {
         rows::numbered::find_wallet(wallets, n, id)
@@ -30,8 +30,8 @@ fn find_if(asked: bool, wallets: &[u64], n: usize, id: u64) -> WalletState
 
 // Each wallet that the record names, by a search of its own.
 pub fn find_parties(header: &[u64], wallets: &[u64], s: Submission) -> Parties
-    requires { (WALLETS < length header.now) × (get_or header.now WALLETS 0 * WALLET-LEN ≤ length wallets.now) }
-    ensures { result ≡ partiesOf header.now wallets.now s }
+    requires { (WALLETS < length header.now) × (get_or header.now WALLETS 0 * WALLET_LEN ≤ length wallets.now) }
+    ensures { result ≡ parties_of header.now wallets.now s }
 {
     let n = header[WALLETS] as usize;
     let signs = (s.op == TRANSFER) | ((s.op == OPEN) | (s.op == CLAIM));

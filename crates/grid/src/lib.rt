@@ -3,8 +3,8 @@
 #![tactic(auto)]
 
 ghost use Rattle.std.specs.Prelude.{◌≡◌, [], ◌∷◌, ◌++◌, ℕ, ◌+◌, ◌≤◌, ◌<◌, get_or};
-ghost use Rattle.rules.specs.Limits.{GRID-ROWS, ANSWERS, LAST-FIGURE, FIGURES};
-ghost use Rattle.rules.specs.Report.{cell, raised, gridRow, sums, firstPast};
+ghost use Rattle.rules.specs.Limits.{GRID_ROWS, ANSWERS, LAST_FIGURE, FIGURES};
+ghost use Rattle.rules.specs.Report.{cell, raised, grid_row, sums, first_past};
 
 use rules::limits::{
     ANSWERS, EXPIRED_SUM, FIGURES, GRANTED_SUM, GRID_ROWS, LAST_FIGURE, LAST_OPERATION, NAMED_CELL,
@@ -14,7 +14,7 @@ use rules::limits::{
 
 // The row of an operation byte: its own, or row 0 where it is no operation. Operation 8 is none today.
 pub fn row_of(op: u8) -> usize
-    ensures { result ≡ gridRow op }
+    ensures { result ≡ grid_row op }
 {
     if (op <= LAST_OPERATION) & (op != OLD_DISPUTE) {
         op as usize
@@ -25,7 +25,7 @@ pub fn row_of(op: u8) -> usize
 
 // The count in a cell.
 pub fn count(grid: [[u64; ANSWERS]; GRID_ROWS], row: usize, column: usize) -> u64
-    requires { (row < GRID-ROWS) × (column < ANSWERS) }
+    requires { (row < GRID_ROWS) × (column < ANSWERS) }
     ensures { result ≡ cell grid row column }
 {
     grid[row][column]
@@ -37,7 +37,7 @@ pub fn raise(
     row: usize,
     column: usize,
 ) -> [[u64; ANSWERS]; GRID_ROWS]
-    requires { (row < GRID-ROWS) × (column < ANSWERS) × (cell grid row column + 1 ≤ LAST-FIGURE) }
+    requires { (row < GRID_ROWS) × (column < ANSWERS) × (cell grid row column + 1 ≤ LAST_FIGURE) }
     ensures { result ≡ raised grid row column }
 {
     let mut next = grid;
@@ -47,7 +47,7 @@ pub fn raise(
 
 // The first figure that would pass 2^64 - 1 with what is added, and behind the figures the cell with one more; 0 if none would.
 pub fn passing(figures: [u64; FIGURES], adds: [u64; FIGURES], count: u64) -> u64
-    ensures { result ≡ firstPast 1 (sums figures adds ++ ((count + 1) ∷ [])) }
+    ensures { result ≡ first_past 1 (sums figures adds ++ ((count + 1) ∷ [])) }
 {
     let granted = payments::sums::exceeds(figures[GRANTED_SUM], adds[GRANTED_SUM], LAST_FIGURE);
     let transferred = payments::sums::exceeds(
@@ -69,7 +69,7 @@ pub fn passing(figures: [u64; FIGURES], adds: [u64; FIGURES], count: u64) -> u64
 
 // The figures with what is added.
 pub fn summed(figures: [u64; FIGURES], adds: [u64; FIGURES]) -> [u64; FIGURES]
-    requires { (k : ℕ) → k < FIGURES → get_or figures k 0 + get_or adds k 0 ≤ LAST-FIGURE }
+    requires { (k : ℕ) → k < FIGURES → get_or figures k 0 + get_or adds k 0 ≤ LAST_FIGURE }
     ensures { result ≡ sums figures adds }
 {
     [

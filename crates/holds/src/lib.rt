@@ -2,13 +2,13 @@
 #![tactic(auto)]
 
 ghost use Rattle.std.specs.Prelude.{◌≡◌, ◌⊎◌, ◌*◌, ◌≤◌, ◌<◌, get_or, length};
-ghost use Rattle.rules.specs.Limits.{WALLET-LEN, MAX-ESCROWS, MAX-RECEIPTS, LAST-TIME-MS, RELEASE, REFUND, CLAIM, REPLY};
+ghost use Rattle.rules.specs.Limits.{WALLET_LEN, MAX_ESCROWS, MAX_RECEIPTS, LAST_TIME_MS, RELEASE, REFUND, CLAIM, REPLY};
 ghost use Rattle.rules.specs.Limits.{WALLETS, ESCROWS, RECEIPTS, ENTRIES};
 ghost use Rattle.rules.specs.Ledger.{Ledger, Sized};
-ghost use Rattle.rules.specs.Moments.{lent, any, ◌of-edition◌, ◌with-header◌, ◌with-escrows◌, ◌with-receipts◌, ◌with-journal◌};
-ghost use Rattle.rules.specs.Refusals.{first, operationRefusals};
+ghost use Rattle.rules.specs.Moments.{lent, any, ◌of_edition◌, ◌with_header◌, ◌with_escrows◌, ◌with_receipts◌, ◌with_journal◌};
+ghost use Rattle.rules.specs.Refusals.{first, operation_refusals};
 ghost use Rattle.holds.specs.Named.{named};
-ghost use Rattle.holds.specs.Terms.{termRefusals};
+ghost use Rattle.holds.specs.Terms.{term_refusals};
 
 use rules::limits::{
     ACCEPTANCE_DEADLINE, ACCEPTS, ADMIN, ENTRIES, ESCROW_DEADLINE, ESCROW_STATE, ESCROWS, FROM,
@@ -47,8 +47,8 @@ pub fn closing_refusal(
     journal: &[u64],
     s: Submission,
 ) -> u64
-    requires { (ENTRIES < length header.now) × (get_or header.now ESCROWS 0 ≤ MAX-ESCROWS) × ((s.op ≡ RELEASE) ⊎ (s.op ≡ REFUND)) × Sized edition }
-    ensures { (K : Ledger) → let L = any K of-edition edition with-header header with-escrows escrows with-journal journal in result ≡ first (operationRefusals L.entry s) }
+    requires { (ENTRIES < length header.now) × (get_or header.now ESCROWS 0 ≤ MAX_ESCROWS) × ((s.op ≡ RELEASE) ⊎ (s.op ≡ REFUND)) × Sized edition }
+    ensures { (K : Ledger) → let L = any K of_edition edition with_header header with_escrows escrows with_journal journal in result ≡ first (operation_refusals L.entry s) }
 {
     let count = header[ESCROWS];
     let entries = header[ENTRIES] as usize;
@@ -75,8 +75,8 @@ fn terms_refusal(
     journal: &[u64],
     s: Submission,
 ) -> u64
-    requires { (ENTRIES < length header.now) × (get_or header.now ESCROWS 0 ≤ MAX-ESCROWS) × (s.issued ≤ LAST-TIME-MS) × Sized edition }
-    ensures { (K : Ledger) → let L = any K of-edition edition with-header header with-escrows escrows with-receipts receipts with-journal journal in result ≡ first (termRefusals L.entry s) }
+    requires { (ENTRIES < length header.now) × (get_or header.now ESCROWS 0 ≤ MAX_ESCROWS) × (s.issued ≤ LAST_TIME_MS) × Sized edition }
+    ensures { (K : Ledger) → let L = any K of_edition edition with_header header with_escrows escrows with_receipts receipts with_journal journal in result ≡ first (term_refusals L.entry s) }
 {
     let held = header[ESCROWS];
     let claimed = header[RECEIPTS] as usize;
@@ -118,8 +118,8 @@ pub fn claim_refusal(
     journal: &[u64],
     s: Submission,
 ) -> u64
-    requires { (ENTRIES < length header.now) × (get_or header.now ESCROWS 0 ≤ MAX-ESCROWS) × (get_or header.now WALLETS 0 * WALLET-LEN ≤ length wallets.now) × (s.issued ≤ LAST-TIME-MS) × (s.op ≡ CLAIM) × Sized edition }
-    ensures { result ≡ first (operationRefusals (lent edition header wallets escrows receipts journal).entry s) }
+    requires { (ENTRIES < length header.now) × (get_or header.now ESCROWS 0 ≤ MAX_ESCROWS) × (get_or header.now WALLETS 0 * WALLET_LEN ≤ length wallets.now) × (s.issued ≤ LAST_TIME_MS) × (s.op ≡ CLAIM) × Sized edition }
+    ensures { result ≡ first (operation_refusals (lent edition header wallets escrows receipts journal).entry s) }
 {
     if (s.target == 0) | (s.target == s.signer) {
         return 15;
@@ -144,8 +144,8 @@ pub fn claim_refusal(
 
 // A reply, an accept or a dispute: checks 32, 33, 34, 41, 35, 40, in this order. A dispute alone needs a reason.
 pub fn reply_refusal(header: &[u64], receipts: &[u64], journal: &[u64], s: Submission) -> u64
-    requires { (ENTRIES < length header.now) × (get_or header.now RECEIPTS 0 ≤ MAX-RECEIPTS) × (s.op ≡ REPLY) }
-    ensures { (K : Ledger) → let L = any K with-header header with-receipts receipts with-journal journal in result ≡ first (operationRefusals L.entry s) }
+    requires { (ENTRIES < length header.now) × (get_or header.now RECEIPTS 0 ≤ MAX_RECEIPTS) × (s.op ≡ REPLY) }
+    ensures { (K : Ledger) → let L = any K with_header header with_receipts receipts with_journal journal in result ≡ first (operation_refusals L.entry s) }
 {
     let count = header[RECEIPTS];
     let entries = header[ENTRIES] as usize;

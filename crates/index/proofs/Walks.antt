@@ -16,8 +16,8 @@ use Rattle.rules.proofs.Counts.{taken_back}
 use Rattle.index.specs.Index.{ROOTS, BRANCHES, PLACES, STEPS, id_at, Within, walked, walk, Seated, Filled}
 
 -- an empty index proposes nothing
-pub within-empty : Within 0 (replicate PLACES 0)
-within-empty = record { room = length-replicate {A = ℕ} PLACES 0; most = λ p. omega (arith, zeros PLACES p) }
+pub within_empty : Within 0 (replicate PLACES 0)
+within_empty = record { room = length-replicate {A = ℕ} PLACES 0; most = λ p. omega (arith, zeros PLACES p) }
 
 -- the places propose one number more
 pub within_more : (n p : ℕ) (t : List ℕ) → Within n t → Within (n + 1) (set t p (n + 1))
@@ -61,10 +61,10 @@ module _ (ids t : List ℕ) (x : ℕ) where
   unfolding walk
   walk_start = record { goes = λ q v e. refl }
 
-  pub walk-on : (left p y s : ℕ) → OnWalk ids t x left p y → 0 < left → s ≡ get_or t p 0 → (s ≡ 0 → ⊥) → (get_or ids s 0 ≡ x → ⊥)
+  pub walk_on : (left p y s : ℕ) → OnWalk ids t x left p y → 0 < left → s ≡ get_or t p 0 → (s ≡ 0 → ⊥) → (get_or ids s 0 ≡ x → ⊥)
       → OnWalk ids t x (left - 1) (ROOTS + s * BRANCHES + y % BRANCHES) (y / BRANCHES)
-  walk-on zero p y s o l e z d = absurd (not-suc-le-zero l)
-  walk-on (suc f) p y s o l e z d =
+  walk_on zero p y s o l e z d = absurd (not-suc-le-zero l)
+  walk_on (suc f) p y s o l e z d =
       let m : suc f - 1 ≡ f = omega arith in
       rw m (record { goes = λ q v r. o.goes q v r ∙ past ids (set t q v) x f p y s (elsewhere t q v p s r e z) z d })
 
@@ -98,8 +98,8 @@ module _ (ids t : List ℕ) (x : ℕ) where
   unfolding walk
   walk_kept q v r z l e = kept q v z STEPS (x % ROOTS) (x / ROOTS) r l e
 
-pub within-le : (m n : ℕ) (t : List ℕ) → m ≤ n → Within m t → Within n t
-within-le m n t l h = record { room = h.room; most = λ p. omega (arith, h.most p) }
+pub within_le : (m n : ℕ) (t : List ℕ) → m ≤ n → Within m t → Within n t
+within_le m n t l h = record { room = h.room; most = λ p. omega (arith, h.most p) }
 
 -- the walk of each of the first n ids meets its number
 pub record Back (ids : List ℕ) (n : ℕ) (t : List ℕ) : Type 0 where
@@ -117,12 +117,12 @@ back_more ids t n place left h s l = record { back = λ j k. go j k (ℕ_discret
     go j k (no e) = walk_kept ids t (id_at ids j) place (n + 1) (j + 1) (s.free l) (omega arith) (h.back j (omega (arith, e)))
 
 -- every id is in the index, so ids differ; or they were compared
-pub filled-all : (ids t : List ℕ) (n i most : ℕ) → i ≤ n → n ≤ i → Within i t → Back ids i t → 0 < most → Filled ids n t most
-filled-all ids t n i most l g w b m =
+pub filled_all : (ids t : List ℕ) (n i most : ℕ) → i ≤ n → n ≤ i → Within i t → Back ids i t → 0 < most → Filled ids n t most
+filled_all ids t n i most l g w b m =
     record {
-      within = within-le i n t l w;
+      within = within_le i n t l w;
       right = lt-ltb 0 most m ∙ sym (taken_back n (id_at ids) (walk ids t) (λ j h. b.back j (omega arith)));
     }
 
-pub filled-compared : (ids t : List ℕ) (n i most : ℕ) (b : Bool) → i ≤ n → Within i t → b ≡ distinct n (id_at ids) → ltb 0 most ≡ b → Filled ids n t most
-filled-compared ids t n i most b l w e f = record { within = within-le i n t l w; right = f ∙ e }
+pub filled_compared : (ids t : List ℕ) (n i most : ℕ) (b : Bool) → i ≤ n → Within i t → b ≡ distinct n (id_at ids) → ltb 0 most ≡ b → Filled ids n t most
+filled_compared ids t n i most b l w e f = record { within = within_le i n t l w; right = f ∙ e }

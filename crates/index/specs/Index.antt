@@ -1,7 +1,7 @@
 -- What the contracts of the index say. An index is two arrays: the wallets' ids by their numbers, and places, each of which proposes a number,
 -- or 0 for none. The walk of an id starts at a root, by its low bits, and goes on to a branch of the wallet that it meets, by the next bits.
 use Rattle.std.specs.Prelude.{◌≡◌, Bool, true, not, cond, List, ℕ, zero, suc, ◌+◌, ◌*◌, ◌%◌, ◌/◌, ◌≤◌, ◌<◌, eqb, ltb, get_or, set, length}
-use Rattle.rules.specs.Limits.{WALLET-LEN, MAX-WALLETS, ID}
+use Rattle.rules.specs.Limits.{WALLET_LEN, MAX_WALLETS, ID}
 use Rattle.rules.specs.Table.{word, distinct}
 use Rattle.rules.specs.Ledger.{row_of}
 
@@ -33,7 +33,7 @@ differs ids i j = not (eqb (id_at ids j) (id_at ids i))
 -- the ids of the first n wallets
 pub record Copied (w : List ℕ) (n : ℕ) (ids : List ℕ) : Type 0 where
   pub room : length ids ≡ NUMBERS
-  pub same : (i : ℕ) → i < n → id_at ids i ≡ word w WALLET-LEN i ID
+  pub same : (i : ℕ) → i < n → id_at ids i ≡ word w WALLET_LEN i ID
 
 -- every place proposes one of n numbers, or none
 pub record Within (n : ℕ) (t : List ℕ) : Type 0 where
@@ -70,8 +70,8 @@ pub record Hit (ids : List ℕ) (n x r : ℕ) : Type 0 where
 
 -- what a look-up goes by
 pub record Indexed (w : List ℕ) (n : ℕ) (ids t : List ℕ) : Type 0 where
-  pub rows : n * WALLET-LEN ≤ length w
-  pub few : n ≤ MAX-WALLETS
+  pub rows : n * WALLET_LEN ≤ length w
+  pub few : n ≤ MAX_WALLETS
   pub copied : Copied w n ids
   pub apart : distinct n (id_at ids) ≡ true
   pub within : Within n t
@@ -81,5 +81,5 @@ unfoldable pub number_of : List ℕ → ℕ → ℕ → ℕ
 number_of w n x = cond (ltb (row_of w n x) n) (row_of w n x + 1) 0
 
 -- the number of the wallet of `from`, where `to` has a wallet too
-unfoldable pub senderOf : List ℕ → ℕ → ℕ → ℕ → ℕ
-senderOf w n from to = cond (ltb (row_of w n to) n) (number_of w n from) 0
+unfoldable pub sender_of : List ℕ → ℕ → ℕ → ℕ → ℕ
+sender_of w n from to = cond (ltb (row_of w n to) n) (number_of w n from) 0

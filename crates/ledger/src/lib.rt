@@ -3,7 +3,7 @@
 #![tactic(auto)]
 
 ghost use Rattle.std.specs.Prelude.{◌≡◌};
-ghost use Rattle.rules.specs.Ledger.{first-edition, outcome, fresh};
+ghost use Rattle.rules.specs.Ledger.{first_edition, outcome, fresh};
 ghost use Rattle.rules.specs.Moments.{lent};
 ghost use Rattle.rules.specs.Submit.{submit};
 
@@ -19,7 +19,7 @@ pub fn fresh(
     receipts: &mut [u64],
     journal: &mut [u64],
 ) -> u64
-    ensures { let L = lent first-edition header wallets escrows receipts journal in outcome result 0 L.exit ≡ fresh L.entry }
+    ensures { let L = lent first_edition header wallets escrows receipts journal in outcome result 0 L.exit ≡ fresh L.entry }
 {
     editions::fresh(FIRST, header, wallets, escrows, receipts, journal)
 }
@@ -34,7 +34,7 @@ pub fn submit(
     journal: &mut [u64],
     bytes: &[u8],
 ) -> Answer
-    ensures { let L = lent first-edition header wallets escrows receipts journal in outcome result.number result.word L.exit ≡ submit L.entry bytes.now }
+    ensures { let L = lent first_edition header wallets escrows receipts journal in outcome result.number result.word L.exit ≡ submit L.entry bytes.now }
 {
     editions::submit(FIRST, header, wallets, escrows, receipts, journal, bytes)
 }

@@ -5,13 +5,13 @@ use mathlib.Core.Bool.{Bool, true, false, not, cond, ◌&&◌, ◌||◌, false�
 use Prim.Native.Nat.{ℕ, ◌*◌, ◌≤◌}
 use lib.Dec.{eqb}
 use lib.ListN.{get_or, length}
-use Rattle.rules.specs.Limits.{WALLET-LEN, MAX-WALLETS, WALLETS}
-use Rattle.rules.specs.Lookup.{countRight, part_at, walletState}
-use Rattle.rules.specs.Wallets.{lookUp}
+use Rattle.rules.specs.Limits.{WALLET_LEN, MAX_WALLETS, WALLETS}
+use Rattle.rules.specs.Lookup.{count_right, part_at, wallet_state}
+use Rattle.rules.specs.Wallets.{look_up}
 use Rattle.rules.specs.declared.Edition.{Edition}
 use Rattle.rules.specs.declared.WalletState.{WalletState}
 use Rattle.rules.specs.declared.WalletState.TheVariants.{Missing}
-use Rattle.rules.proofs.Bools.{or-none-fst, or-none-snd, not-false-true}
+use Rattle.rules.proofs.Bools.{or_none_fst, or_none_snd, not_false_true}
 use Rattle.rows.specs.Part.{placed}
 use Rattle.rules.proofs.Places.{count_fits}
 
@@ -22,32 +22,32 @@ part_by len t r p q e x = subst (λ (k : ℕ). (r ≡ part_at len t k) × (q ≡
 
 -- the wallets' count is right
 abbrev Right : Edition → List ℕ → List ℕ → Bool
-Right ed header wallets = countRight ed.header WALLETS WALLET-LEN MAX-WALLETS header wallets
+Right ed header wallets = count_right ed.header WALLETS WALLET_LEN MAX_WALLETS header wallets
 
 -- a wrong count and the id 0 have no wallet
-pub not-asked : (ed : Edition) (header wallets : List ℕ) (id : ℕ) {right : Bool} → right ≡ Right ed header wallets → not right || eqb id 0 ≡ true
-    → Missing ≡ walletState ed header wallets id
-unfolding walletState
-not-asked ed header wallets id x t = go (Right ed header wallets) (eqb id 0) (subst (λ (b : Bool). not b || eqb id 0 ≡ true) x t)
+pub not_asked : (ed : Edition) (header wallets : List ℕ) (id : ℕ) {right : Bool} → right ≡ Right ed header wallets → not right || eqb id 0 ≡ true
+    → Missing ≡ wallet_state ed header wallets id
+unfolding wallet_state
+not_asked ed header wallets id x t = go (Right ed header wallets) (eqb id 0) (subst (λ (b : Bool). not b || eqb id 0 ≡ true) x t)
   where
-    go : (b z : Bool) → not b || z ≡ true → Missing ≡ cond (b && not z) (lookUp wallets (get_or header WALLETS 0) id) Missing
+    go : (b z : Bool) → not b || z ≡ true → Missing ≡ cond (b && not z) (look_up wallets (get_or header WALLETS 0) id) Missing
     go true true e = refl
     go true false e = absurd (false≢true e)
     go false z e = refl
 
 -- otherwise the count is right, and its rows are in the table
 pub asked : (ed : Edition) (header wallets : List ℕ) (id : ℕ) {right : Bool} → right ≡ Right ed header wallets → not right || eqb id 0 ≡ false → Right ed header wallets ≡ true
-asked ed header wallets id {right} x t = sym x ∙ not-false-true right (or-none-fst (not right) (eqb id 0) t)
+asked ed header wallets id {right} x t = sym x ∙ not_false_true right (or_none_fst (not right) (eqb id 0) t)
 
 pub counted : (ed : Edition) (header wallets : List ℕ) (id : ℕ) {right : Bool} {n : ℕ} → right ≡ Right ed header wallets → not right || eqb id 0 ≡ false → n ≡ get_or header WALLETS 0
-    → n * WALLET-LEN ≤ length wallets
-counted ed header wallets id x t y = rw y (count_fits ed.header WALLETS WALLET-LEN MAX-WALLETS header wallets (asked ed header wallets id x t))
+    → n * WALLET_LEN ≤ length wallets
+counted ed header wallets id x t y = rw y (count_fits ed.header WALLETS WALLET_LEN MAX_WALLETS header wallets (asked ed header wallets id x t))
 
 -- and the answer is what the search found
 pub searched : (ed : Edition) (header wallets : List ℕ) (id : ℕ) {right : Bool} {n : ℕ} {state : WalletState} → right ≡ Right ed header wallets
-    → not right || eqb id 0 ≡ false → n ≡ get_or header WALLETS 0 → state ≡ lookUp wallets n id → state ≡ walletState ed header wallets id
-unfolding walletState
+    → not right || eqb id 0 ≡ false → n ≡ get_or header WALLETS 0 → state ≡ look_up wallets n id → state ≡ wallet_state ed header wallets id
+unfolding wallet_state
 searched ed header wallets id {right} x t y z =
     let r = asked ed header wallets id x t in
-    let i = or-none-snd (not right) (eqb id 0) t in
+    let i = or_none_snd (not right) (eqb id 0) t in
     rw (r, i, ← y) z

@@ -3,8 +3,8 @@
 
 ghost use Rattle.std.specs.Prelude.{◌≡◌};
 ghost use Rattle.rules.specs.Ledger.{Sized};
-ghost use Rattle.rules.specs.Lookup.{escrowPlace, escrowPart, receiptPlace, receiptPart, walletState};
-ghost use Rattle.rules.specs.Wallets.{standingOf};
+ghost use Rattle.rules.specs.Lookup.{escrow_place, escrow_part, receipt_place, receipt_part, wallet_state};
+ghost use Rattle.rules.specs.Wallets.{standing_of};
 ghost use Rattle.rows.specs.Part.{placed};
 
 use rules::limits::{
@@ -16,7 +16,7 @@ use rules::{Edition, EscrowNumber, ReceiptNumber, Standing, WalletState};
 // Where an escrow's row starts in the table, in words; the table's length where it is not written.
 pub fn escrow_place(edition: Edition, header: &[u64], escrows: &[u64], n: EscrowNumber) -> usize
     requires { Sized edition }
-    ensures { result ≡ escrowPlace edition header.now escrows.now n.0 }
+    ensures { result ≡ escrow_place edition header.now escrows.now n.0 }
 {
     rows::row_place(
         header,
@@ -31,7 +31,7 @@ pub fn escrow_place(edition: Edition, header: &[u64], escrows: &[u64], n: Escrow
 
 // The same of a receipt.
 pub fn receipt_place(edition: Edition, header: &[u64], receipts: &[u64], n: ReceiptNumber) -> usize
-    ensures { result ≡ receiptPlace edition header.now receipts.now n.0 }
+    ensures { result ≡ receipt_place edition header.now receipts.now n.0 }
 {
     rows::row_place(
         header,
@@ -52,8 +52,8 @@ pub fn escrow_row<'a>(
     n: EscrowNumber,
 ) -> &'a [u64]
     requires { Sized edition }
-    ensures { (result.now ≡ escrowPart edition header.now escrows.now n.0)
-        × (result.ref_ptr ≡ placed escrows.entry.ref_ptr (escrowPlace edition header.now escrows.now n.0)) }
+    ensures { (result.now ≡ escrow_part edition header.now escrows.now n.0)
+        × (result.ref_ptr ≡ placed escrows.entry.ref_ptr (escrow_place edition header.now escrows.now n.0)) }
 {
     let place = escrow_place(edition, header, escrows, n);
     rows::row_part(escrows, edition.escrow, place)
@@ -66,8 +66,8 @@ pub fn receipt_row<'a>(
     receipts: &'a [u64],
     n: ReceiptNumber,
 ) -> &'a [u64]
-    ensures { (result.now ≡ receiptPart edition header.now receipts.now n.0)
-        × (result.ref_ptr ≡ placed receipts.entry.ref_ptr (receiptPlace edition header.now receipts.now n.0)) }
+    ensures { (result.now ≡ receipt_part edition header.now receipts.now n.0)
+        × (result.ref_ptr ≡ placed receipts.entry.ref_ptr (receipt_place edition header.now receipts.now n.0)) }
 {
     let place = receipt_place(edition, header, receipts, n);
     rows::row_part(receipts, RECEIPT_LEN, place)
@@ -75,7 +75,7 @@ pub fn receipt_row<'a>(
 
 // The wallet of an id: missing, or live or closed and its number. A closed one is told from a missing one, and from a live one.
 pub fn wallet_row(edition: Edition, header: &[u64], wallets: &[u64], id: u64) -> WalletState
-    ensures { result ≡ walletState edition header.now wallets.now id }
+    ensures { result ≡ wallet_state edition header.now wallets.now id }
 {
     let right = rows::count_right(
         header,
@@ -94,7 +94,7 @@ pub fn wallet_row(edition: Edition, header: &[u64], wallets: &[u64], id: u64) ->
 
 // The same in numbers: an enum does not cross `extern "C"`.
 pub fn standing(state: WalletState) -> Standing
-    ensures { result ≡ standingOf state }
+    ensures { result ≡ standing_of state }
 {
     match state {
         WalletState::Missing => Standing {

@@ -4,15 +4,15 @@
 
 ghost use Rattle.std.specs.Prelude.{◌≡◌};
 ghost use Rattle.rules.specs.Convert.{converted};
-ghost use Rattle.rules.specs.Ledger.{first-edition, outcome, fresh};
-ghost use Rattle.rules.specs.Lookup.{escrowPlace, receiptPlace, walletState};
+ghost use Rattle.rules.specs.Ledger.{first_edition, outcome, fresh};
+ghost use Rattle.rules.specs.Lookup.{escrow_place, receipt_place, wallet_state};
 ghost use Rattle.rules.specs.Moments.{lent};
-ghost use Rattle.rules.specs.Record.{Written, read_of, writeOf};
+ghost use Rattle.rules.specs.Record.{Written, read_of, write_of};
 ghost use Rattle.rules.specs.Replay.{gone, told, replay};
-ghost use Rattle.rules.specs.Report.{reportOf, telling, report};
-ghost use Rattle.rules.specs.Status.{statusOf};
+ghost use Rattle.rules.specs.Report.{report_of, telling, report};
+ghost use Rattle.rules.specs.Status.{status_of};
 ghost use Rattle.rules.specs.Submit.{submit};
-ghost use Rattle.rules.specs.Wallets.{standingOf};
+ghost use Rattle.rules.specs.Wallets.{standing_of};
 
 use rules::limits::{ANSWERS, FIGURES, GRID_ROWS, NAMED, TOLD, TOLD_ENTRIES, TOLD_NUMBER};
 use rules::{Answer, EscrowNumber, Read, ReceiptNumber, Standing, Submission, Told, Verdict};
@@ -27,7 +27,7 @@ pub extern "C" fn milebeacon_submit(
     journal: &mut [u64],
     bytes: &[u8],
 ) -> Answer
-    ensures { let L = lent first-edition header wallets escrows receipts journal in outcome result.number result.word L.exit ≡ submit L.entry bytes.now }
+    ensures { let L = lent first_edition header wallets escrows receipts journal in outcome result.number result.word L.exit ≡ submit L.entry bytes.now }
 {
     ledger::submit(header, wallets, escrows, receipts, journal, bytes)
 }
@@ -41,7 +41,7 @@ pub extern "C" fn milebeacon_fresh(
     receipts: &mut [u64],
     journal: &mut [u64],
 ) -> u64
-    ensures { let L = lent first-edition header wallets escrows receipts journal in outcome result 0 L.exit ≡ fresh L.entry }
+    ensures { let L = lent first_edition header wallets escrows receipts journal in outcome result 0 L.exit ≡ fresh L.entry }
 {
     ledger::fresh(header, wallets, escrows, receipts, journal)
 }
@@ -57,7 +57,7 @@ pub extern "C" fn milebeacon_read(bytes: &[u8]) -> Read
 // Writes a record: 0 and its bytes, or 3 and the output as it was.
 #[unsafe(no_mangle)]
 pub extern "C" fn milebeacon_write(submission: Submission, out: &mut [u8]) -> u64
-    ensures { ◌≡◌ {A = Written} (record { number = result; out = out.new }) (writeOf submission out.old) }
+    ensures { ◌≡◌ {A = Written} (record { number = result; out = out.new }) (write_of submission out.old) }
 {
     record::write_record(submission, out)
 }
@@ -65,7 +65,7 @@ pub extern "C" fn milebeacon_write(submission: Submission, out: &mut [u8]) -> u6
 // The status of an answer.
 #[unsafe(no_mangle)]
 pub extern "C" fn milebeacon_status(number: u64) -> u64
-    ensures { result ≡ statusOf number }
+    ensures { result ≡ status_of number }
 {
     rules::status(number)
 }
@@ -73,7 +73,7 @@ pub extern "C" fn milebeacon_status(number: u64) -> u64
 // The wallet of an id, in numbers: whether it is missing, live or closed, and the number of its row, or 0.
 #[unsafe(no_mangle)]
 pub extern "C" fn milebeacon_wallet_row(header: &[u64], wallets: &[u64], id: u64) -> Standing
-    ensures { result ≡ standingOf (walletState first-edition header.now wallets.now id) }
+    ensures { result ≡ standing_of (wallet_state first_edition header.now wallets.now id) }
 {
     let state = ledger::lookups::wallet_row(header, wallets, id);
     looking::standing(state)
@@ -86,7 +86,7 @@ pub extern "C" fn milebeacon_escrow_place(
     escrows: &[u64],
     number: EscrowNumber,
 ) -> usize
-    ensures { result ≡ escrowPlace first-edition header.now escrows.now number.0 }
+    ensures { result ≡ escrow_place first_edition header.now escrows.now number.0 }
 {
     ledger::lookups::escrow_place(header, escrows, number)
 }
@@ -98,7 +98,7 @@ pub extern "C" fn milebeacon_receipt_place(
     receipts: &[u64],
     number: ReceiptNumber,
 ) -> usize
-    ensures { result ≡ receiptPlace first-edition header.now receipts.now number.0 }
+    ensures { result ≡ receipt_place first_edition header.now receipts.now number.0 }
 {
     ledger::lookups::receipt_place(header, receipts, number)
 }
@@ -113,7 +113,7 @@ pub extern "C" fn milebeacon_replay(
     journal: &mut [u64],
     recording: &[u8],
 ) -> Verdict
-    ensures { let L = lent first-edition header wallets escrows receipts journal in gone result L.exit ≡ told (replay submit L.entry recording.now) }
+    ensures { let L = lent first_edition header wallets escrows receipts journal in gone result L.exit ≡ told (replay submit L.entry recording.now) }
 {
     let found = replay::replay(header, wallets, escrows, receipts, journal, recording);
     replay::verdict(found)
@@ -133,7 +133,7 @@ pub extern "C" fn milebeacon_report(
     figures: &mut [u64; FIGURES],
     named: &mut [u64; NAMED],
 ) -> Told
-    ensures { let L = lent first-edition header wallets escrows receipts journal in telling result.number result.entries (reportOf grid.new figures.new named.new) L.exit ≡ report submit (reportOf grid.old figures.old named.old) L.entry recording.now }
+    ensures { let L = lent first_edition header wallets escrows receipts journal in telling result.number result.entries (report_of grid.new figures.new named.new) L.exit ≡ report submit (report_of grid.old figures.old named.old) L.entry recording.now }
 {
     let before = *grid;
     let mut told = [0u64; TOLD];

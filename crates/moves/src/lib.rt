@@ -3,11 +3,11 @@
 #![tactic(auto)]
 
 ghost use Rattle.std.specs.Prelude.{◌≡◌, cond, ◌+◌, ◌-◌, ◌*◌, ◌<◌, ◌≤◌, ◌^◌, length, get_or, set, eqb};
-ghost use Rattle.rules.specs.Limits.{WALLET-LEN, ESCROW-STATE, ESCROW-CLOSED-AT, ESCROW-CLOSED-BY, RELEASED};
-ghost use Rattle.rules.specs.Table.{word, putRow};
-ghost use Rattle.rules.specs.Ledger.{Ledger, row_of, putEscrow};
-ghost use Rattle.rules.specs.Moments.{any, ◌of-edition◌, ◌with-header◌, ◌with-wallets◌, ◌with-escrows◌, ◌with-receipts◌};
-ghost use Rattle.rules.specs.Settle.{ensureWallet, endEscrow, closeReceipt, acceptRow, done};
+ghost use Rattle.rules.specs.Limits.{WALLET_LEN, ESCROW_STATE, ESCROW_CLOSED_AT, ESCROW_CLOSED_BY, RELEASED};
+ghost use Rattle.rules.specs.Table.{word, put_row};
+ghost use Rattle.rules.specs.Ledger.{Ledger, row_of, put_escrow};
+ghost use Rattle.rules.specs.Moments.{any, ◌of_edition◌, ◌with_header◌, ◌with_wallets◌, ◌with_escrows◌, ◌with_receipts◌};
+ghost use Rattle.rules.specs.Settle.{ensure_wallet, end_escrow, close_receipt, accept_row, done};
 ghost use Rattle.rules.specs.Refusals.{releasable};
 ghost use Rattle.rows.specs.Numbered.{Names};
 ghost use Rattle.moves.specs.Needs.{row_in, more, less, Counted, Moves, Ends, Accepts};
@@ -24,7 +24,7 @@ use rules::{Edition, EscrowNumber, ReceiptNumber, WalletNumber, WalletState};
 // A new row in the first unwritten place of a table; the header's word `count` counts its rows. Its number.
 pub fn append(header: &mut [u64], t: &mut [u64], len: usize, count: usize, words: &[u64]) -> u64
     requires { (count < length header.old) × (get_or header.old count 0 < 2 ^ 32) × (len < 2 ^ 16) × (length words.now < 2 ^ 16) }
-    ensures { (result ≡ get_or header.old count 0 + 1) × (header.new ≡ set header.old count (get_or header.old count 0 + 1)) × (t.new ≡ putRow t.old len (get_or header.old count 0) words.now) }
+    ensures { (result ≡ get_or header.old count 0 + 1) × (header.new ≡ set header.old count (get_or header.old count 0 + 1)) × (t.new ≡ put_row t.old len (get_or header.old count 0) words.now) }
 {
     let row = header[count];
     rows::put_row(t, len, row as usize, words);
@@ -34,7 +34,7 @@ pub fn append(header: &mut [u64], t: &mut [u64], len: usize, count: usize, words
 
 // More in word k of a wallet.
 pub fn raise(wallets: &mut [u64], number: WalletNumber, k: usize, amount: u64)
-    requires { Names number.0 × (k < 2 ^ 16) × (word wallets.old WALLET-LEN (number.0 - 1) k + amount < 2 ^ 64) }
+    requires { Names number.0 × (k < 2 ^ 16) × (word wallets.old WALLET_LEN (number.0 - 1) k + amount < 2 ^ 64) }
     ensures { wallets.new ≡ more wallets.old (number.0 - 1) k amount }
 {
     let had = numbered::wallet(wallets, number, k);
@@ -61,7 +61,7 @@ pub fn move_credits(
 // The wallet of an id. A missing one is made: zeros and the usual caps. A closed one is not missing, and gets no second row.
 pub fn ensure_wallet(header: &mut [u64], wallets: &mut [u64], id: u64) -> WalletNumber
     requires { Counted header.old wallets.old }
-    ensures { (result.0 ≡ row_in header.old wallets.old id + 1) × ((K : Ledger) → let L = any K with-header header with-wallets wallets in L.exit ≡ ensureWallet id L.entry) }
+    ensures { (result.0 ≡ row_in header.old wallets.old id + 1) × ((K : Ledger) → let L = any K with_header header with_wallets wallets in L.exit ≡ ensure_wallet id L.entry) }
 {
     let written = header[WALLETS];
     let found = numbered::find_wallet(wallets, written as usize, id);
@@ -84,7 +84,7 @@ pub fn ensure_wallet(header: &mut [u64], wallets: &mut [u64], id: u64) -> Wallet
 // The wallet of a party to an escrow, live or closed: a sound ledger does not ask a closed one to be empty, so what ends treats its row as any other.
 // A sound ledger has it; where it is missing, the definitions look behind the last row.
 fn party(wallets: &[u64], written: usize, id: u64) -> WalletNumber
-    requires { written * WALLET-LEN ≤ length wallets.now }
+    requires { written * WALLET_LEN ≤ length wallets.now }
     ensures { result.0 ≡ row_of wallets.now written id + 1 }
 {
     let found = numbered::find_wallet(wallets, written, id);
@@ -104,7 +104,7 @@ fn payee(
     from: u64,
     to: u64,
 ) -> WalletNumber
-    requires { (written * WALLET-LEN ≤ length wallets.now) × (sender.0 ≡ row_of wallets.now written from + 1) }
+    requires { (written * WALLET_LEN ≤ length wallets.now) × (sender.0 ≡ row_of wallets.now written from + 1) }
     ensures { result.0 ≡ row_of wallets.now written (cond (eqb state RELEASED) to from) + 1 }
 {
     if state == RELEASED {
@@ -124,7 +124,7 @@ fn close_escrow(
     signer: u64,
 )
     requires { Names number.0 × (edition.escrow < 2 ^ 16) }
-    ensures { (K : Ledger) → let L = any K of-edition edition with-escrows escrows in L.exit ≡ putEscrow (number.0 - 1) ESCROW-CLOSED-BY signer (putEscrow (number.0 - 1) ESCROW-CLOSED-AT time (putEscrow (number.0 - 1) ESCROW-STATE state L.entry)) }
+    ensures { (K : Ledger) → let L = any K of_edition edition with_escrows escrows in L.exit ≡ put_escrow (number.0 - 1) ESCROW_CLOSED_BY signer (put_escrow (number.0 - 1) ESCROW_CLOSED_AT time (put_escrow (number.0 - 1) ESCROW_STATE state L.entry)) }
 {
     numbered::set_escrow(edition, escrows, number, ESCROW_STATE, state);
     numbered::set_escrow(edition, escrows, number, ESCROW_CLOSED_AT, time);
@@ -143,7 +143,7 @@ pub fn end_escrow(
     signer: u64,
 )
     requires { Names number.0 × Ends edition header.now wallets.old escrows.old (number.0 - 1) }
-    ensures { (K : Ledger) → let L = any K of-edition edition with-header header with-wallets wallets with-escrows escrows in L.exit ≡ endEscrow state time signer (number.0 - 1) L.entry }
+    ensures { (K : Ledger) → let L = any K of_edition edition with_header header with_wallets wallets with_escrows escrows in L.exit ≡ end_escrow state time signer (number.0 - 1) L.entry }
 {
     let from = numbered::escrow(edition, escrows, number, FROM);
     let to = numbered::escrow(edition, escrows, number, TO);
@@ -164,7 +164,7 @@ pub fn close_receipt(
     signer: u64,
 )
     requires { Names number.0 }
-    ensures { (K : Ledger) → let L = any K with-receipts receipts in L.exit ≡ closeReceipt state time signer (number.0 - 1) L.entry }
+    ensures { (K : Ledger) → let L = any K with_receipts receipts in L.exit ≡ close_receipt state time signer (number.0 - 1) L.entry }
 {
     numbered::set_receipt(receipts, number, RECEIPT_STATE, state);
     numbered::set_receipt(receipts, number, RECEIPT_CLOSED_AT, time);
@@ -174,7 +174,7 @@ pub fn close_receipt(
 // Whether an escrow is open and not stale.
 pub fn is_releasable(edition: Edition, escrows: &[u64], number: EscrowNumber, time: u64) -> bool
     requires { Names number.0 × (edition.escrow < 2 ^ 16) }
-    ensures { (K : Ledger) → let L = any K of-edition edition with-escrows escrows in result ≡ releasable L.entry time (number.0 - 1) }
+    ensures { (K : Ledger) → let L = any K of_edition edition with_escrows escrows in result ≡ releasable L.entry time (number.0 - 1) }
 {
     let state = numbered::escrow(edition, escrows, number, ESCROW_STATE);
     let deadline = numbered::escrow(edition, escrows, number, ESCROW_DEADLINE);
@@ -193,7 +193,7 @@ pub fn accept_receipt(
     signer: u64,
 ) -> u64
     requires { Names number.0 × Accepts edition header.now wallets.old escrows.old receipts.old time (number.0 - 1) }
-    ensures { (K : Ledger) → let L = any K of-edition edition with-header header with-wallets wallets with-escrows escrows with-receipts receipts in done result L.exit ≡ acceptRow time signer (number.0 - 1) L.entry }
+    ensures { (K : Ledger) → let L = any K of_edition edition with_header header with_wallets wallets with_escrows escrows with_receipts receipts in done result L.exit ≡ accept_row time signer (number.0 - 1) L.entry }
 {
     let link = EscrowNumber(numbered::receipt(receipts, number, RECEIPT_LINK));
     close_receipt(receipts, number, ACCEPTED, time, signer);

@@ -3,11 +3,11 @@
 #![tactic(auto)]
 
 ghost use Rattle.std.specs.Prelude.{◌≡◌, ◌-◌};
-ghost use Rattle.rules.specs.Limits.{AUTO-OR-FREEZE};
+ghost use Rattle.rules.specs.Limits.{AUTO_OR_FREEZE};
 ghost use Rattle.rules.specs.Ledger.{Ledger};
-ghost use Rattle.rules.specs.Moments.{any, ◌of-edition◌, ◌with-header◌, ◌with-wallets◌, ◌with-escrows◌, ◌with-receipts◌};
+ghost use Rattle.rules.specs.Moments.{any, ◌of_edition◌, ◌with_header◌, ◌with_wallets◌, ◌with_escrows◌, ◌with_receipts◌};
 ghost use Rattle.rules.specs.Record.{bit};
-ghost use Rattle.rules.specs.Settle.{done, grant, transfer, openEscrow, endEscrow, claim, accept, dispute, reply, freeze, caps, close};
+ghost use Rattle.rules.specs.Settle.{done, grant, transfer, open_escrow, end_escrow, claim, accept, dispute, reply, freeze, caps, close};
 ghost use Rattle.rows.specs.Numbered.{Names};
 ghost use Rattle.moves.specs.Needs.{Ends, Accepts};
 ghost use Rattle.operations.specs.Needs.{Granting, Paying, Opening, Claiming, Naming, Freezing};
@@ -22,7 +22,7 @@ use rules::{Edition, EscrowNumber, ReceiptNumber, Submission, WalletState};
 // Grant raises the target's balance and the granted total.
 pub fn grant(header: &mut [u64], wallets: &mut [u64], s: Submission) -> u64
     requires { Granting header.old wallets.old s }
-    ensures { (K : Ledger) → let L = any K with-header header with-wallets wallets in done result L.exit ≡ grant s L.entry }
+    ensures { (K : Ledger) → let L = any K with_header header with_wallets wallets in done result L.exit ≡ grant s L.entry }
 {
     let granted = header[GRANTED];
     let target = moves::ensure_wallet(header, wallets, s.target);
@@ -34,7 +34,7 @@ pub fn grant(header: &mut [u64], wallets: &mut [u64], s: Submission) -> u64
 // Transfer moves balance. The signer is looked up among the wallets that are there, before the target's is made.
 pub fn transfer(header: &mut [u64], wallets: &mut [u64], s: Submission) -> u64
     requires { Paying header.old wallets.old s }
-    ensures { (K : Ledger) → let L = any K with-header header with-wallets wallets in done result L.exit ≡ transfer s L.entry }
+    ensures { (K : Ledger) → let L = any K with_header header with_wallets wallets in done result L.exit ≡ transfer s L.entry }
 {
     let found = numbered::find_wallet(wallets, header[WALLETS] as usize, s.signer);
     match found {
@@ -58,7 +58,7 @@ pub fn open_escrow(
     s: Submission,
 ) -> u64
     requires { Opening edition header.old wallets.old s }
-    ensures { (K : Ledger) → let L = any K of-edition edition with-header header with-wallets wallets with-escrows escrows in done result L.exit ≡ openEscrow s L.entry }
+    ensures { (K : Ledger) → let L = any K of_edition edition with_header header with_wallets wallets with_escrows escrows in done result L.exit ≡ open_escrow s L.entry }
 {
     let found = numbered::find_wallet(wallets, header[WALLETS] as usize, s.signer);
     match found {
@@ -89,7 +89,7 @@ pub fn close_escrow(
     state: u64,
 ) -> u64
     requires { Names s.target × Ends edition header.now wallets.old escrows.old (s.target - 1) }
-    ensures { (K : Ledger) → let L = any K of-edition edition with-header header with-wallets wallets with-escrows escrows in done result L.exit ≡ done 0 (endEscrow state s.now s.signer (s.target - 1) L.entry) }
+    ensures { (K : Ledger) → let L = any K of_edition edition with_header header with_wallets wallets with_escrows escrows in done result L.exit ≡ done 0 (end_escrow state s.now s.signer (s.target - 1) L.entry) }
 {
     let number = EscrowNumber(s.target);
     moves::end_escrow(
@@ -100,7 +100,7 @@ pub fn close_escrow(
 
 // Bit 2 of the flags: auto-accept, or freeze.
 fn auto_or_freeze(flags: u8) -> u64
-    ensures { result ≡ bit AUTO-OR-FREEZE flags }
+    ensures { result ≡ bit AUTO_OR_FREEZE flags }
 {
     (flags / AUTO_OR_FREEZE % 2) as u64
 }
@@ -108,7 +108,7 @@ fn auto_or_freeze(flags: u8) -> u64
 // Claim's word is the receipt's number.
 pub fn claim(header: &mut [u64], receipts: &mut [u64], s: Submission) -> u64
     requires { Claiming header.old }
-    ensures { (K : Ledger) → let L = any K with-header header with-receipts receipts in done result L.exit ≡ claim s L.entry }
+    ensures { (K : Ledger) → let L = any K with_header header with_receipts receipts in done result L.exit ≡ claim s L.entry }
 {
     let auto = auto_or_freeze(s.flags);
     moves::append(
@@ -133,7 +133,7 @@ fn accept(
     s: Submission,
 ) -> u64
     requires { Names s.target × Accepts edition header.now wallets.old escrows.old receipts.old s.now (s.target - 1) }
-    ensures { (K : Ledger) → let L = any K of-edition edition with-header header with-wallets wallets with-escrows escrows with-receipts receipts in done result L.exit ≡ accept s L.entry }
+    ensures { (K : Ledger) → let L = any K of_edition edition with_header header with_wallets wallets with_escrows escrows with_receipts receipts in done result L.exit ≡ accept s L.entry }
 {
     let number = ReceiptNumber(s.target);
     moves::accept_receipt(
@@ -144,7 +144,7 @@ fn accept(
 // Dispute closes the receipt as disputed and moves no credits.
 fn dispute(receipts: &mut [u64], s: Submission) -> u64
     requires { Names s.target }
-    ensures { (K : Ledger) → let L = any K with-receipts receipts in done result L.exit ≡ dispute s L.entry }
+    ensures { (K : Ledger) → let L = any K with_receipts receipts in done result L.exit ≡ dispute s L.entry }
 {
     let number = ReceiptNumber(s.target);
     moves::close_receipt(receipts, number, DISPUTED, s.now, s.signer);
@@ -161,7 +161,7 @@ pub fn reply(
     s: Submission,
 ) -> u64
     requires { Names s.target × Accepts edition header.now wallets.old escrows.old receipts.old s.now (s.target - 1) }
-    ensures { (K : Ledger) → let L = any K of-edition edition with-header header with-wallets wallets with-escrows escrows with-receipts receipts in done result L.exit ≡ reply s L.entry }
+    ensures { (K : Ledger) → let L = any K of_edition edition with_header header with_wallets wallets with_escrows escrows with_receipts receipts in done result L.exit ≡ reply s L.entry }
 {
     if s.flags / ACCEPTS % 2 == 0 {
         return dispute(receipts, s);
@@ -172,7 +172,7 @@ pub fn reply(
 // Freeze sets the wallet's frozen word, or the system's for target 0, to bit 2.
 pub fn freeze(header: &mut [u64], wallets: &mut [u64], s: Submission) -> u64
     requires { Freezing header.old wallets.old s }
-    ensures { (K : Ledger) → let L = any K with-header header with-wallets wallets in done result L.exit ≡ freeze s L.entry }
+    ensures { (K : Ledger) → let L = any K with_header header with_wallets wallets in done result L.exit ≡ freeze s L.entry }
 {
     let frozen = auto_or_freeze(s.flags);
     if s.target == 0 {
@@ -194,7 +194,7 @@ pub fn freeze(header: &mut [u64], wallets: &mut [u64], s: Submission) -> u64
 // Caps sets both caps.
 pub fn caps(header: &[u64], wallets: &mut [u64], s: Submission) -> u64
     requires { Naming header.now wallets.old s }
-    ensures { (K : Ledger) → let L = any K with-header header with-wallets wallets in done result L.exit ≡ caps s L.entry }
+    ensures { (K : Ledger) → let L = any K with_header header with_wallets wallets in done result L.exit ≡ caps s L.entry }
 {
     let found = numbered::find_wallet(wallets, header[WALLETS] as usize, s.target);
     match found {
@@ -212,7 +212,7 @@ pub fn caps(header: &[u64], wallets: &mut [u64], s: Submission) -> u64
 // Close sets the wallet's frozen word to 2, for good.
 pub fn close(header: &[u64], wallets: &mut [u64], s: Submission) -> u64
     requires { Naming header.now wallets.old s }
-    ensures { (K : Ledger) → let L = any K with-header header with-wallets wallets in done result L.exit ≡ close s L.entry }
+    ensures { (K : Ledger) → let L = any K with_header header with_wallets wallets in done result L.exit ≡ close s L.entry }
 {
     let found = numbered::find_wallet(wallets, header[WALLETS] as usize, s.target);
     match found {

@@ -2,12 +2,12 @@
 #![tactic(auto)]
 
 ghost use Rattle.std.specs.Prelude.{◌≡◌, ◌⊎◌, ◌+◌, ◌*◌, ◌≤◌, ◌<◌, get_or, length};
-ghost use Rattle.rules.specs.Limits.{WALLET-LEN, MAX-WALLETS, LAST-TIME-MS, WALLETS, ENTRIES, GRANT, TRANSFER, OPEN};
+ghost use Rattle.rules.specs.Limits.{WALLET_LEN, MAX_WALLETS, LAST_TIME_MS, WALLETS, ENTRIES, GRANT, TRANSFER, OPEN};
 ghost use Rattle.rules.specs.Ledger.{Ledger, Sized, row_of};
-ghost use Rattle.rules.specs.Moments.{any, ◌of-edition◌, ◌with-header◌, ◌with-wallets◌, ◌with-escrows◌, ◌with-journal◌};
-ghost use Rattle.rules.specs.Refusals.{first, operationRefusals};
+ghost use Rattle.rules.specs.Moments.{any, ◌of_edition◌, ◌with_header◌, ◌with_wallets◌, ◌with_escrows◌, ◌with_journal◌};
+ghost use Rattle.rules.specs.Refusals.{first, operation_refusals};
 ghost use Rattle.payments.specs.Entries.{Entries};
-ghost use Rattle.payments.specs.Sending.{limited, sendingRefusals};
+ghost use Rattle.payments.specs.Sending.{limited, sending_refusals};
 
 use rules::limits::{
     BALANCE, DAILY_CAP, ENTRIES, ESCROWS, FROZEN, GRANTED, IS_FROZEN, JOURNAL_LEN,
@@ -19,8 +19,8 @@ pub mod sums;
 
 // A grant: checks 12, 15, 43, 36, 37, 40, in this order.
 pub fn grant_refusal(header: &[u64], wallets: &[u64], journal: &[u64], s: Submission) -> u64
-    requires { (ENTRIES < length header.now) × (get_or header.now WALLETS 0 * WALLET-LEN ≤ length wallets.now) × (s.op ≡ GRANT) }
-    ensures { (K : Ledger) → let L = any K with-header header with-wallets wallets with-journal journal in result ≡ first (operationRefusals L.entry s) }
+    requires { (ENTRIES < length header.now) × (get_or header.now WALLETS 0 * WALLET_LEN ≤ length wallets.now) × (s.op ≡ GRANT) }
+    ensures { (K : Ledger) → let L = any K with_header header with_wallets wallets with_journal journal in result ≡ first (operation_refusals L.entry s) }
 {
     let granted = header[GRANTED];
     let count = header[WALLETS] as usize;
@@ -45,7 +45,7 @@ pub fn grant_refusal(header: &[u64], wallets: &[u64], journal: &[u64], s: Submis
 
 // Checks 17 to 21 of a live sender, by what was found of it, and then the rest.
 fn limits_refusal(s: Submission, balance: u64, tx_cap: u64, over: bool, rest: u64) -> u64
-    requires { s.now ≤ LAST-TIME-MS }
+    requires { s.now ≤ LAST_TIME_MS }
     ensures { result ≡ limited s balance tx_cap over rest }
 {
     let opens = s.op == OPEN;
@@ -70,8 +70,8 @@ fn sending_refusal(
     s: Submission,
     sender: WalletNumber,
 ) -> u64
-    requires { (ENTRIES < length header.now) × (get_or header.now WALLETS 0 ≤ MAX-WALLETS) × (get_or header.now WALLETS 0 * WALLET-LEN ≤ length wallets.now) × Entries journal.now (get_or header.now ENTRIES 0) × (s.now ≤ LAST-TIME-MS) × Sized edition × (sender.0 ≡ row_of wallets.now (get_or header.now WALLETS 0) s.signer + 1) }
-    ensures { (K : Ledger) → let L = any K of-edition edition with-header header with-wallets wallets with-escrows escrows with-journal journal in result ≡ first (sendingRefusals L.entry s) }
+    requires { (ENTRIES < length header.now) × (get_or header.now WALLETS 0 ≤ MAX_WALLETS) × (get_or header.now WALLETS 0 * WALLET_LEN ≤ length wallets.now) × Entries journal.now (get_or header.now ENTRIES 0) × (s.now ≤ LAST_TIME_MS) × Sized edition × (sender.0 ≡ row_of wallets.now (get_or header.now WALLETS 0) s.signer + 1) }
+    ensures { (K : Ledger) → let L = any K of_edition edition with_header header with_wallets wallets with_escrows escrows with_journal journal in result ≡ first (sending_refusals L.entry s) }
 {
     let count = header[WALLETS] as usize;
     let held = header[ESCROWS] as usize;
@@ -105,8 +105,8 @@ pub fn paying_refusal(
     journal: &[u64],
     s: Submission,
 ) -> u64
-    requires { (ENTRIES < length header.now) × (get_or header.now WALLETS 0 ≤ MAX-WALLETS) × (get_or header.now WALLETS 0 * WALLET-LEN ≤ length wallets.now) × Entries journal.now (get_or header.now ENTRIES 0) × (s.now ≤ LAST-TIME-MS) × ((s.op ≡ TRANSFER) ⊎ (s.op ≡ OPEN)) × Sized edition }
-    ensures { (K : Ledger) → let L = any K of-edition edition with-header header with-wallets wallets with-escrows escrows with-journal journal in result ≡ first (operationRefusals L.entry s) }
+    requires { (ENTRIES < length header.now) × (get_or header.now WALLETS 0 ≤ MAX_WALLETS) × (get_or header.now WALLETS 0 * WALLET_LEN ≤ length wallets.now) × Entries journal.now (get_or header.now ENTRIES 0) × (s.now ≤ LAST_TIME_MS) × ((s.op ≡ TRANSFER) ⊎ (s.op ≡ OPEN)) × Sized edition }
+    ensures { (K : Ledger) → let L = any K of_edition edition with_header header with_wallets wallets with_escrows escrows with_journal journal in result ≡ first (operation_refusals L.entry s) }
 {
     let count = header[WALLETS] as usize;
     let sender = rows::numbered::find_wallet(wallets, count, s.signer);

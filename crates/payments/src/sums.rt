@@ -1,7 +1,7 @@
 // Sums that mean whole numbers: they never wrap.
 ghost use Rattle.std.specs.Prelude.{◌≡◌, ◌+◌, ltb};
 ghost use Rattle.payments.specs.Entries.{Entries};
-ghost use Rattle.rules.specs.Refusals.{countedOf};
+ghost use Rattle.rules.specs.Refusals.{counted_of};
 
 use rules::limits::{
     DAY_MS, ENTRY_AMOUNT, JOURNAL_LEN, OPEN, OPERATION, SETTLED_AT, SIGNER, TRANSFER,
@@ -18,7 +18,7 @@ pub fn exceeds(a: u64, b: u64, cap: u64) -> bool
 // alone decide: what an open held counts, whatever became of its escrow.
 pub fn counted(journal: &[u64], n: usize, signer: u64, clock: u64) -> u64
     requires { Entries journal.now n }
-    ensures { result ≡ countedOf journal.now n signer clock }
+    ensures { result ≡ counted_of journal.now n signer clock }
 {
     let mut sum = 0;
     let mut i = 0;

@@ -11,31 +11,31 @@ use lib.Dec.{eqb, ltb, leb}
 use lib.Bits.{bit_or}
 use lib.ListN.{get_or, length}
 use borrow.Author.Tests.{ltb-false, lt-ltb, le-leb, lt-leb}
-use Rattle.rules.specs.Limits.{JOURNAL-LEN, MAX-ENTRIES, MAX-AMOUNT-MICRO, LAST-TIME-MS, DAY-MS, TRANSFER, OPEN, SIGNER, NONCE, OPERATION, ENTRY-AMOUNT, SETTLED-AT}
+use Rattle.rules.specs.Limits.{JOURNAL_LEN, MAX_ENTRIES, MAX_AMOUNT_MICRO, LAST_TIME_MS, DAY_MS, TRANSFER, OPEN, SIGNER, NONCE, OPERATION, ENTRY_AMOUNT, SETTLED_AT}
 use Rattle.rules.specs.Table.{word, all, every, some, sum}
-use Rattle.rules.specs.Sound.{time, entryTests}
-use Rattle.rules.specs.Refusals.{seenIn, counts, countedOf}
-use Rattle.rules.proofs.Bools.{and-none-fst, and-none-snd, or-none-snd}
-use Rattle.rules.proofs.Counts.{every-fails}
-use Rattle.reading.specs.Looks.{entriesIn, looked}
-use Rattle.reading.proofs.Row.{fails, amount-is, part-is, recent-is, times-are}
+use Rattle.rules.specs.Sound.{time, entry_tests}
+use Rattle.rules.specs.Refusals.{seen_in, counts, counted_of}
+use Rattle.rules.proofs.Bools.{and_none_fst, and_none_snd, or_none_snd}
+use Rattle.rules.proofs.Counts.{every_fails}
+use Rattle.reading.specs.Looks.{entries_in, looked}
+use Rattle.reading.proofs.Row.{fails, amount_is, part_is, recent_is, times_are}
 
 -- the tests of row i
 abbrev right : List ℕ → ℕ → Bool
-right j i = all (entryTests (entriesIn j) i)
+right j i = all (entry_tests (entries_in j) i)
 
 pub record Sofar (j : List ℕ) (n signer nonce clock times found spent at : ℕ) : Type 0 where
   -- the rows before this one, which starts at the place, are still to be read
   pub row : ℕ
-  pub place : at ≡ row * JOURNAL-LEN
+  pub place : at ≡ row * JOURNAL_LEN
   pub within : row ≤ n
   pub rights : every n (right j) ≡ (every row (right j) && time times)
-  pub uses : seenIn j n signer nonce ≡ (seenIn j row signer nonce || ltb 0 found)
-  pub spends : countedOf j n signer clock ≡ countedOf j row signer clock + spent
-  pub most : spent + row * MAX-AMOUNT-MICRO ≤ n * MAX-AMOUNT-MICRO
+  pub uses : seen_in j n signer nonce ≡ (seen_in j row signer nonce || ltb 0 found)
+  pub spends : counted_of j n signer clock ≡ counted_of j row signer clock + spent
+  pub most : spent + row * MAX_AMOUNT_MICRO ≤ n * MAX_AMOUNT_MICRO
 
 module _ (j : List ℕ) (n signer nonce clock : ℕ) where
-  pub begins : Sofar j n signer nonce clock 0 0 0 (n * JOURNAL-LEN)
+  pub begins : Sofar j n signer nonce clock 0 0 0 (n * JOURNAL_LEN)
   begins =
       record {
         row = n;
@@ -52,17 +52,17 @@ module _ (i : ℕ) (h : 0 < i) where
   again : i ≡ i - 1 + 1
   again = omega arith
 
-  every-newest : (p : ℕ → Bool) → every i p ≡ (every (i - 1) p && p (i - 1))
+  every_newest : (p : ℕ → Bool) → every i p ≡ (every (i - 1) p && p (i - 1))
   unfolding every
-  every-newest p = ap (λ m. every m p) again ∙ ap (λ m. every m p) (add-one (i - 1))
+  every_newest p = ap (λ m. every m p) again ∙ ap (λ m. every m p) (add-one (i - 1))
 
-  some-newest : (p : ℕ → Bool) → some i p ≡ (some (i - 1) p || p (i - 1))
+  some_newest : (p : ℕ → Bool) → some i p ≡ (some (i - 1) p || p (i - 1))
   unfolding some
-  some-newest p = ap (λ m. some m p) again ∙ ap (λ m. some m p) (add-one (i - 1))
+  some_newest p = ap (λ m. some m p) again ∙ ap (λ m. some m p) (add-one (i - 1))
 
-  sum-newest : (f : ℕ → ℕ) → sum i f ≡ sum (i - 1) f + f (i - 1)
+  sum_newest : (f : ℕ → ℕ) → sum i f ≡ sum (i - 1) f + f (i - 1)
   unfolding sum
-  sum-newest f = ap (λ m. sum m f) again ∙ ap (λ m. sum m f) (add-one (i - 1))
+  sum_newest f = ap (λ m. sum m f) again ∙ ap (λ m. sum m f) (add-one (i - 1))
 
 -- a test put behind another
 swap : (a b c : Bool) → (a && b) && c ≡ a && (c && b)
@@ -77,17 +77,17 @@ marked false true mark found h = sym (lt-ltb 0 mark h)
 marked false false mark found h = refl
 
 -- what is chosen is at most what there is
-chosen-most : (b : Bool) (x m : ℕ) → x ≤ m → cond b x 0 ≤ m
-chosen-most true x m h = h
-chosen-most false x m h = omega arith
+chosen_most : (b : Bool) (x m : ℕ) → x ≤ m → cond b x 0 ≤ m
+chosen_most true x m h = h
+chosen_most false x m h = omega arith
 
 -- the reader's view of the row at a place
 module _ (j : List ℕ) (at : ℕ) where
   abbrev pub settled : ℕ
-  settled = get_or j (at + SETTLED-AT) 0
+  settled = get_or j (at + SETTLED_AT) 0
 
   abbrev pub paid : ℕ → ℕ
-  paid other = cond (eqb (get_or j (at + OPERATION) 0) TRANSFER || eqb (get_or j (at + OPERATION) 0) OPEN) (get_or j (at + ENTRY-AMOUNT) 0) other
+  paid other = cond (eqb (get_or j (at + OPERATION) 0) TRANSFER || eqb (get_or j (at + OPERATION) 0) OPEN) (get_or j (at + ENTRY_AMOUNT) 0) other
 
   abbrev pub has : ℕ → ℕ → Bool
   has signer nonce = eqb (get_or j (at + SIGNER) 0) signer && eqb (get_or j (at + NONCE) 0) nonce
@@ -96,40 +96,40 @@ module _ (j : List ℕ) (at : ℕ) where
   picked signer since amount = cond (eqb (get_or j (at + SIGNER) 0) signer && leb since settled) amount 0
 
 -- the newest of i rows, by its place
-seen-newest : (j : List ℕ) (signer nonce i : ℕ) → 0 < i
-    → seenIn j i signer nonce ≡ (seenIn j (i - 1) signer nonce || has j ((i - 1) * JOURNAL-LEN) signer nonce)
-unfolding seenIn
-seen-newest j signer nonce i h = some-newest i h _
+seen_newest : (j : List ℕ) (signer nonce i : ℕ) → 0 < i
+    → seen_in j i signer nonce ≡ (seen_in j (i - 1) signer nonce || has j ((i - 1) * JOURNAL_LEN) signer nonce)
+unfolding seen_in
+seen_newest j signer nonce i h = some_newest i h _
 
 -- what row k adds
 abbrev part : List ℕ → ℕ → ℕ → ℕ → ℕ
-part j signer clock k = cond (counts j signer clock k) (word j JOURNAL-LEN k ENTRY-AMOUNT) 0
+part j signer clock k = cond (counts j signer clock k) (word j JOURNAL_LEN k ENTRY_AMOUNT) 0
 
-counted-newest : (j : List ℕ) (signer clock i : ℕ) → 0 < i → countedOf j i signer clock ≡ countedOf j (i - 1) signer clock + part j signer clock (i - 1)
-unfolding countedOf
-counted-newest j signer clock i h = sum-newest i h (part j signer clock)
+counted_newest : (j : List ℕ) (signer clock i : ℕ) → 0 < i → counted_of j i signer clock ≡ counted_of j (i - 1) signer clock + part j signer clock (i - 1)
+unfolding counted_of
+counted_newest j signer clock i h = sum_newest i h (part j signer clock)
 
-part_at : (j : List ℕ) (signer clock k since amount : ℕ) → since ≡ clock - DAY-MS → amount ≡ paid j (k * JOURNAL-LEN) 0
-    → picked j (k * JOURNAL-LEN) signer since amount ≡ part j signer clock k
+part_at : (j : List ℕ) (signer clock k since amount : ℕ) → since ≡ clock - DAY_MS → amount ≡ paid j (k * JOURNAL_LEN) 0
+    → picked j (k * JOURNAL_LEN) signer since amount ≡ part j signer clock k
 part_at j signer clock k since amount d p =
-    ap (λ (x : ℕ). picked j (k * JOURNAL-LEN) signer x amount) d
-    ∙ ap (λ b. cond (mine && b) amount 0) (recent-is clock (settled j (k * JOURNAL-LEN)))
+    ap (λ (x : ℕ). picked j (k * JOURNAL_LEN) signer x amount) d
+    ∙ ap (λ b. cond (mine && b) amount 0) (recent_is clock (settled j (k * JOURNAL_LEN)))
     ∙ ap (λ (x : ℕ). cond (mine && recent) x 0) p
-    ∙ part-is mine (eqb operation TRANSFER) (eqb operation OPEN) recent (word j JOURNAL-LEN k ENTRY-AMOUNT)
+    ∙ part_is mine (eqb operation TRANSFER) (eqb operation OPEN) recent (word j JOURNAL_LEN k ENTRY_AMOUNT)
   where
     operation : ℕ
-    operation = word j JOURNAL-LEN k OPERATION
+    operation = word j JOURNAL_LEN k OPERATION
 
     mine : Bool
-    mine = eqb (word j JOURNAL-LEN k SIGNER) signer
+    mine = eqb (word j JOURNAL_LEN k SIGNER) signer
 
     recent : Bool
-    recent = leb clock (word j JOURNAL-LEN k SETTLED-AT + DAY-MS)
+    recent = leb clock (word j JOURNAL_LEN k SETTLED_AT + DAY_MS)
 
 -- nothing is said of rows that are not right
-pub said-none : (r used : Bool) (spent : ℕ) → r ≡ false → record { right = false; used = false; spent = 0 } ≡ looked r used spent
+pub said_none : (r used : Bool) (spent : ℕ) → r ≡ false → record { right = false; used = false; spent = 0 } ≡ looked r used spent
 unfolding looked
-said-none r used spent e = rw e
+said_none r used spent e = rw e
 
 said_all : (r used used' : Bool) (spent spent' : ℕ) → r ≡ true → used ≡ used' → spent ≡ spent'
     → record { right = true; used = used'; spent = spent' } ≡ looked r used spent
@@ -144,28 +144,28 @@ module _ (j : List ℕ) (n signer nonce clock times found spent at : ℕ) (s : S
   abbrev k : ℕ
   k = i - 1
 
-  pub sum_fits : n ≤ MAX-ENTRIES → spent < 2 ^ 64
+  pub sum_fits : n ≤ MAX_ENTRIES → spent < 2 ^ 64
   sum_fits few = omega (arith, s.most)
 
   module _ (go : 0 < at) where
     left : 0 < i
     left = omega (arith, s.place)
 
-    start : at - JOURNAL-LEN ≡ k * JOURNAL-LEN
+    start : at - JOURNAL_LEN ≡ k * JOURNAL_LEN
     start = omega (arith, s.place)
 
-    pub row-long : JOURNAL-LEN ≤ at
-    row-long = omega (arith, s.place)
+    pub row_long : JOURNAL_LEN ≤ at
+    row_long = omega (arith, s.place)
 
-    pub row_fits : n * JOURNAL-LEN ≤ length j → at - JOURNAL-LEN + JOURNAL-LEN ≤ length j
+    pub row_fits : n * JOURNAL_LEN ≤ length j → at - JOURNAL_LEN + JOURNAL_LEN ≤ length j
     row_fits fit = omega (arith, s.place, s.within)
 
-    module _ (shown amount : ℕ) (p : amount ≡ paid j (at - JOURNAL-LEN) 0) (q : shown ≡ paid j (at - JOURNAL-LEN) n) where
+    module _ (shown amount : ℕ) (p : amount ≡ paid j (at - JOURNAL_LEN) 0) (q : shown ≡ paid j (at - JOURNAL_LEN) n) where
       -- the row is right just if its time is and the reader's test lets it pass
-      row_is : right j k ≡ (time (settled j (k * JOURNAL-LEN)) && not (fails shown amount))
+      row_is : right j k ≡ (time (settled j (k * JOURNAL_LEN)) && not (fails shown amount))
       row_is =
-          ap (λ b. time (settled j (k * JOURNAL-LEN)) && b)
-          (amount-is (eqb (word j JOURNAL-LEN k OPERATION) TRANSFER || eqb (word j JOURNAL-LEN k OPERATION) OPEN) (word j JOURNAL-LEN k ENTRY-AMOUNT) n shown amount
+          ap (λ b. time (settled j (k * JOURNAL_LEN)) && b)
+          (amount_is (eqb (word j JOURNAL_LEN k OPERATION) TRANSFER || eqb (word j JOURNAL_LEN k OPERATION) OPEN) (word j JOURNAL_LEN k ENTRY_AMOUNT) n shown amount
           (omega (arith, s.within, left))
           (q ∙ ap (λ (x : ℕ). paid j x n) start)
           (p ∙ ap (λ (x : ℕ). paid j x 0) start))
@@ -173,16 +173,16 @@ module _ (j : List ℕ) (n signer nonce clock times found spent at : ℕ) (s : S
       pub wrong_row : (used : Bool) (sum : ℕ) → fails shown amount ≡ true
           → record { right = false; used = false; spent = 0 } ≡ looked (every n (right j)) used sum
       wrong_row used sum f =
-          let r : right j k ≡ false = row_is ∙ and-none-snd (time (settled j (k * JOURNAL-LEN))) (not (fails shown amount)) (rw f) in
-          said-none (every n (right j)) used sum
-          (s.rights ∙ and-none-fst (every i (right j)) (time times) (sym (every-fails i k (right j) (omega (arith, left)) r)))
+          let r : right j k ≡ false = row_is ∙ and_none_snd (time (settled j (k * JOURNAL_LEN))) (not (fails shown amount)) (rw f) in
+          said_none (every n (right j)) used sum
+          (s.rights ∙ and_none_fst (every i (right j)) (time times) (sym (every_fails i k (right j) (omega (arith, left)) r)))
 
       pub next : (since added hit : ℕ) (used : Bool) → fails shown amount ≡ false
-          → since ≡ clock - DAY-MS
-          → used ≡ has j (at - JOURNAL-LEN) signer nonce
+          → since ≡ clock - DAY_MS
+          → used ≡ has j (at - JOURNAL_LEN) signer nonce
           → hit ≡ cond used n found
-          → added ≡ picked j (at - JOURNAL-LEN) signer since amount
-          → Sofar j n signer nonce clock (bit_or times (settled j (at - JOURNAL-LEN))) hit (spent + added) (at - JOURNAL-LEN)
+          → added ≡ picked j (at - JOURNAL_LEN) signer since amount
+          → Sofar j n signer nonce clock (bit_or times (settled j (at - JOURNAL_LEN))) hit (spent + added) (at - JOURNAL_LEN)
       next since added hit used f d u m a =
           record {
             row = k;
@@ -190,23 +190,23 @@ module _ (j : List ℕ) (n signer nonce clock times found spent at : ℕ) (s : S
             within = omega (arith, s.within);
             rights =
                 s.rights
-                ∙ ap (λ b. b && time times) (every-newest i left (right j) ∙ ap (λ b. every k (right j) && b) timed)
-                ∙ swap (every k (right j)) (time (settled j (at - JOURNAL-LEN))) (time times)
-                ∙ ap (λ b. every k (right j) && b) (sym (times-are times (settled j (at - JOURNAL-LEN))));
+                ∙ ap (λ b. b && time times) (every_newest i left (right j) ∙ ap (λ b. every k (right j) && b) timed)
+                ∙ swap (every k (right j)) (time (settled j (at - JOURNAL_LEN))) (time times)
+                ∙ ap (λ b. every k (right j) && b) (sym (times_are times (settled j (at - JOURNAL_LEN))));
             uses =
                 s.uses
-                ∙ ap (λ b. b || ltb 0 found) (seen-newest j signer nonce i left ∙ ap (λ b. seenIn j k signer nonce || b) (sym there))
-                ∙ marked (seenIn j k signer nonce) used n found (omega (arith, s.within, left))
-                ∙ ap (λ (x : ℕ). seenIn j k signer nonce || ltb 0 x) (sym m);
-            spends = omega (arith, s.spends, counted-newest j signer clock i left, adds);
+                ∙ ap (λ b. b || ltb 0 found) (seen_newest j signer nonce i left ∙ ap (λ b. seen_in j k signer nonce || b) (sym there))
+                ∙ marked (seen_in j k signer nonce) used n found (omega (arith, s.within, left))
+                ∙ ap (λ (x : ℕ). seen_in j k signer nonce || ltb 0 x) (sym m);
+            spends = omega (arith, s.spends, counted_newest j signer clock i left, adds);
             most = omega (arith, s.most, left, least);
           }
         where
-          timed : right j k ≡ time (settled j (at - JOURNAL-LEN))
+          timed : right j k ≡ time (settled j (at - JOURNAL_LEN))
           timed =
-              row_is ∙ ap (λ b. time (settled j (k * JOURNAL-LEN)) && not b) f ∙ and-true _ ∙ ap (λ (x : ℕ). time (settled j x)) (sym start)
+              row_is ∙ ap (λ b. time (settled j (k * JOURNAL_LEN)) && not b) f ∙ and-true _ ∙ ap (λ (x : ℕ). time (settled j x)) (sym start)
 
-          there : used ≡ has j (k * JOURNAL-LEN) signer nonce
+          there : used ≡ has j (k * JOURNAL_LEN) signer nonce
           there = u ∙ ap (λ (x : ℕ). has j x signer nonce) start
 
           adds : added ≡ part j signer clock k
@@ -214,32 +214,32 @@ module _ (j : List ℕ) (n signer nonce clock times found spent at : ℕ) (s : S
               a ∙ ap (λ (x : ℕ). picked j x signer since amount) start
               ∙ part_at j signer clock k since amount d (p ∙ ap (λ (x : ℕ). paid j x 0) start)
 
-          least : added ≤ MAX-AMOUNT-MICRO
+          least : added ≤ MAX_AMOUNT_MICRO
           least =
               rw a
-              (chosen-most (eqb (get_or j (at - JOURNAL-LEN + SIGNER) 0) signer && leb since (settled j (at - JOURNAL-LEN))) amount MAX-AMOUNT-MICRO
-              (ltb-false MAX-AMOUNT-MICRO amount (or-none-snd (eqb shown 0) (ltb MAX-AMOUNT-MICRO amount) f)))
+              (chosen_most (eqb (get_or j (at - JOURNAL_LEN + SIGNER) 0) signer && leb since (settled j (at - JOURNAL_LEN))) amount MAX_AMOUNT_MICRO
+              (ltb-false MAX_AMOUNT_MICRO amount (or_none_snd (eqb shown 0) (ltb MAX_AMOUNT_MICRO amount) f)))
 
   module _ (stop : at ≤ 0) where
     none : i ≡ 0
     none = omega (arith, s.place)
 
-    rights-all : every n (right j) ≡ time times
+    rights_all : every n (right j) ≡ time times
     unfolding every
-    rights-all = s.rights ∙ ap (λ (m : ℕ). every m (right j) && time times) none
+    rights_all = s.rights ∙ ap (λ (m : ℕ). every m (right j) && time times) none
 
-    uses-all : seenIn j n signer nonce ≡ ltb 0 found
-    unfolding seenIn some
-    uses-all = s.uses ∙ ap (λ (m : ℕ). seenIn j m signer nonce || ltb 0 found) none
+    uses_all : seen_in j n signer nonce ≡ ltb 0 found
+    unfolding seen_in some
+    uses_all = s.uses ∙ ap (λ (m : ℕ). seen_in j m signer nonce || ltb 0 found) none
 
-    spends-all : countedOf j n signer clock ≡ spent
-    unfolding countedOf sum
-    spends-all = s.spends ∙ ap (λ (m : ℕ). countedOf j m signer clock + spent) none ∙ zero-add spent
+    spends_all : counted_of j n signer clock ≡ spent
+    unfolding counted_of sum
+    spends_all = s.spends ∙ ap (λ (m : ℕ). counted_of j m signer clock + spent) none ∙ zero-add spent
 
-    pub late : (used : Bool) (sum : ℕ) → LAST-TIME-MS < times
+    pub late : (used : Bool) (sum : ℕ) → LAST_TIME_MS < times
         → record { right = false; used = false; spent = 0 } ≡ looked (every n (right j)) used sum
-    late used sum l = said-none (every n (right j)) used sum (rights-all ∙ lt-leb times LAST-TIME-MS l)
+    late used sum l = said_none (every n (right j)) used sum (rights_all ∙ lt-leb times LAST_TIME_MS l)
 
-    pub in-time : times ≤ LAST-TIME-MS
-        → record { right = true; used = ltb 0 found; spent = spent } ≡ looked (every n (right j)) (seenIn j n signer nonce) (countedOf j n signer clock)
-    in-time l = said_all _ _ _ _ _ (rights-all ∙ le-leb times LAST-TIME-MS l) uses-all spends-all
+    pub in_time : times ≤ LAST_TIME_MS
+        → record { right = true; used = ltb 0 found; spent = spent } ≡ looked (every n (right j)) (seen_in j n signer nonce) (counted_of j n signer clock)
+    in_time l = said_all _ _ _ _ _ (rights_all ∙ le-leb times LAST_TIME_MS l) uses_all spends_all

@@ -4,8 +4,8 @@ use Rattle.rules.specs.Ledger.{Ledger, ledger}
 use Rattle.reading.specs.declared.Looked.{Looked}
 
 -- a journal as a ledger of that table alone, so that the tests of its rows are the definitions' own
-abbrev pub entriesIn : List ℕ → Ledger
-entriesIn j = ledger [] [] [] [] j
+abbrev pub entries_in : List ℕ → Ledger
+entries_in j = ledger [] [] [] [] j
 
 -- of right rows what was found in them; of others nothing
 unfoldable pub looked : Bool → Bool → ℕ → Looked

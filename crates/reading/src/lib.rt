@@ -5,11 +5,11 @@
 #![tactic(auto)]
 
 ghost use Rattle.std.specs.Prelude.{◌≡◌, false, cond, ◌&&◌, ◌||◌, ◌+◌, ◌-◌, ◌*◌, ◌≤◌, eqb, leb, get_or, length};
-ghost use Rattle.rules.specs.Limits.{JOURNAL-LEN, MAX-ENTRIES, DAY-MS, TRANSFER, OPEN, SIGNER, NONCE, OPERATION, ENTRY-AMOUNT, SETTLED-AT};
+ghost use Rattle.rules.specs.Limits.{JOURNAL_LEN, MAX_ENTRIES, DAY_MS, TRANSFER, OPEN, SIGNER, NONCE, OPERATION, ENTRY_AMOUNT, SETTLED_AT};
 ghost use Rattle.rules.specs.Table.{all, every};
-ghost use Rattle.rules.specs.Sound.{entryTests};
-ghost use Rattle.rules.specs.Refusals.{seenIn, countedOf};
-ghost use Rattle.reading.specs.Looks.{entriesIn, looked};
+ghost use Rattle.rules.specs.Sound.{entry_tests};
+ghost use Rattle.rules.specs.Refusals.{seen_in, counted_of};
+ghost use Rattle.reading.specs.Looks.{entries_in, looked};
 
 use rules::limits::{
     DAY_MS, ENTRY_AMOUNT, JOURNAL_LEN, LAST_TIME_MS, MAX_AMOUNT_MICRO, NONCE, OPERATION,
@@ -42,15 +42,15 @@ pub fn nothing() -> Looked
 
 // The earliest time that is not older than 24 hours at the clock.
 fn day_before(clock: u64) -> u64
-    ensures { result ≡ clock - DAY-MS }
+    ensures { result ≡ clock - DAY_MS }
 {
     if clock < DAY_MS { 0 } else { clock - DAY_MS }
 }
 
 // The amount of the row that starts at a place, if it is a transfer or an open; `other` of any other row.
 fn paid(journal: &[u64], at: usize, other: u64) -> u64
-    requires { at + JOURNAL-LEN ≤ length journal.now }
-    ensures { result ≡ cond (eqb (get_or journal.now (at + OPERATION) 0) TRANSFER || eqb (get_or journal.now (at + OPERATION) 0) OPEN) (get_or journal.now (at + ENTRY-AMOUNT) 0) other }
+    requires { at + JOURNAL_LEN ≤ length journal.now }
+    ensures { result ≡ cond (eqb (get_or journal.now (at + OPERATION) 0) TRANSFER || eqb (get_or journal.now (at + OPERATION) 0) OPEN) (get_or journal.now (at + ENTRY_AMOUNT) 0) other }
 {
     let operation = journal[at + OPERATION];
     rows::choose(
@@ -62,7 +62,7 @@ fn paid(journal: &[u64], at: usize, other: u64) -> u64
 
 // Whether that row has signer and nonce.
 fn uses(journal: &[u64], at: usize, signer: u64, nonce: u64) -> bool
-    requires { at + JOURNAL-LEN ≤ length journal.now }
+    requires { at + JOURNAL_LEN ≤ length journal.now }
     ensures { result ≡ (eqb (get_or journal.now (at + SIGNER) 0) signer && eqb (get_or journal.now (at + NONCE) 0) nonce) }
 {
     (journal[at + SIGNER] == signer) & (journal[at + NONCE] == nonce)
@@ -70,8 +70,8 @@ fn uses(journal: &[u64], at: usize, signer: u64, nonce: u64) -> bool
 
 // What that row adds to the signer's day: what it paid, if the signer did so since then.
 fn spends(journal: &[u64], at: usize, signer: u64, since: u64, paid: u64) -> u64
-    requires { at + JOURNAL-LEN ≤ length journal.now }
-    ensures { result ≡ cond (eqb (get_or journal.now (at + SIGNER) 0) signer && leb since (get_or journal.now (at + SETTLED-AT) 0)) paid 0 }
+    requires { at + JOURNAL_LEN ≤ length journal.now }
+    ensures { result ≡ cond (eqb (get_or journal.now (at + SIGNER) 0) signer && leb since (get_or journal.now (at + SETTLED_AT) 0)) paid 0 }
 {
     rows::choose(
         (journal[at + SIGNER] == signer) & (since <= journal[at + SETTLED_AT]),
@@ -82,8 +82,8 @@ fn spends(journal: &[u64], at: usize, signer: u64, since: u64, paid: u64) -> u64
 
 // Reads the first n rows.
 pub fn look(journal: &[u64], n: usize, signer: u64, nonce: u64, clock: u64) -> Looked
-    requires { (n * JOURNAL-LEN ≤ length journal.now) × (n ≤ MAX-ENTRIES) }
-    ensures { result ≡ looked (every n (λ i. all (entryTests (entriesIn journal.now) i))) (seenIn journal.now n signer nonce) (countedOf journal.now n signer clock) }
+    requires { (n * JOURNAL_LEN ≤ length journal.now) × (n ≤ MAX_ENTRIES) }
+    ensures { result ≡ looked (every n (λ i. all (entry_tests (entries_in journal.now) i))) (seen_in journal.now n signer nonce) (counted_of journal.now n signer clock) }
 {
     let since = day_before(clock);
     let mut times = 0;

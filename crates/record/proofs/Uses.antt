@@ -8,70 +8,70 @@ use native.Mathlib.Omega.{arith}
 use lib.Dec.{T, eqb, ltb, leb}
 use lib.ListN.{get_or}
 use borrow.Author.Tests.{leb-true, ne_eqb}
-use Rattle.rules.specs.Limits.{GRANT, TRANSFER, OPEN, RELEASE, REFUND, CLAIM, REPLY, OLD-DISPUTE, SWEEP, FREEZE, CAPS, CLOSE, LAST-OPERATION, LAST-TIME-MS}
+use Rattle.rules.specs.Limits.{GRANT, TRANSFER, OPEN, RELEASE, REFUND, CLAIM, REPLY, OLD_DISPUTE, SWEEP, FREEZE, CAPS, CLOSE, LAST_OPERATION, LAST_TIME_MS}
 use Rattle.rules.specs.Table.{all, every}
-use Rattle.rules.specs.Record.{bit, inForm, usesOf, usedOrZero, bitsApart, wellFormedBy}
+use Rattle.rules.specs.Record.{bit, in_form, uses_of, used_or_zero, bits_apart, well_formed_by}
 use Rattle.rules.specs.declared.Form.{Form}
 use Rattle.rules.specs.declared.Form.TheVariants.{Old, Today}
 use Rattle.rules.specs.declared.Submission.{Submission}
-use Rattle.record.specs.Forms.{isToday}
-use Rattle.rules.proofs.Bools.{all-at, or-other, not-true-false}
+use Rattle.record.specs.Forms.{is_today}
+use Rattle.rules.proofs.Bools.{all_at, or_other, not_true_false}
 use Rattle.rules.proofs.Below.{below}
 
 -- ---- the code's tests of an operation
-abbrev isEnvelope : ℕ → Bool
-isEnvelope op = not (eqb op SWEEP)
+abbrev is_envelope : ℕ → Bool
+is_envelope op = not (eqb op SWEEP)
 
-abbrev isAdmin : ℕ → Bool
-isAdmin op = eqb op GRANT || (eqb op RELEASE || (eqb op REFUND || (eqb op FREEZE || (eqb op CAPS || eqb op CLOSE))))
+abbrev is_admin : ℕ → Bool
+is_admin op = eqb op GRANT || (eqb op RELEASE || (eqb op REFUND || (eqb op FREEZE || (eqb op CAPS || eqb op CLOSE))))
 
-abbrev isReply : Bool → ℕ → Bool
-isReply today op = today && eqb op REPLY
+abbrev is_reply : Bool → ℕ → Bool
+is_reply today op = today && eqb op REPLY
 
-abbrev isAutoFreezeOrAccept : Bool → ℕ → Bool
-isAutoFreezeOrAccept today op = eqb op CLAIM || (eqb op FREEZE || isReply today op)
+abbrev is_auto_freeze_or_accept : Bool → ℕ → Bool
+is_auto_freeze_or_accept today op = eqb op CLAIM || (eqb op FREEZE || is_reply today op)
 
-abbrev isReason : Bool → ℕ → Bool
-isReason today op = isReply today op || (not today && eqb op OLD-DISPUTE)
+abbrev is_reason : Bool → ℕ → Bool
+is_reason today op = is_reply today op || (not today && eqb op OLD_DISPUTE)
 
-abbrev isAmount : ℕ → Bool
-isAmount op = eqb op GRANT || (eqb op TRANSFER || (eqb op OPEN || (eqb op SWEEP || eqb op CAPS)))
+abbrev is_amount : ℕ → Bool
+is_amount op = eqb op GRANT || (eqb op TRANSFER || (eqb op OPEN || (eqb op SWEEP || eqb op CAPS)))
 
-abbrev isUntil : ℕ → Bool
-isUntil op = eqb op OPEN || eqb op CLAIM
+abbrev is_until : ℕ → Bool
+is_until op = eqb op OPEN || eqb op CLAIM
 
-abbrev isLink : ℕ → Bool
-isLink op = eqb op CLAIM || eqb op CAPS
+abbrev is_link : ℕ → Bool
+is_link op = eqb op CLAIM || eqb op CAPS
 
-abbrev isHash : ℕ → Bool
-isHash op = eqb op CLAIM
+abbrev is_hash : ℕ → Bool
+is_hash op = eqb op CLAIM
 
 -- ---- they are the table's, for operations 1 to 12
 abbrev same : Bool → Bool → Bool
 same true b = b
 same false b = not b
 
-same-eq : (a b : Bool) → same a b ≡ true → a ≡ b
-same-eq true b e = sym e
-same-eq false b e = sym (not-true-false b e)
+same_eq : (a b : Bool) → same a b ≡ true → a ≡ b
+same_eq true b e = sym e
+same_eq false b e = sym (not_true_false b e)
 
 -- bit k of what operation op uses
-abbrev usesBit : Form → ℕ → ℕ → Bool
-usesBit f k op = eqb (bit k (usesOf f op).bits) 1
+abbrev uses_bit : Form → ℕ → ℕ → Bool
+uses_bit f k op = eqb (bit k (uses_of f op).bits) 1
 
 abbrev pairs : Bool → Form → ℕ → List Bool
 pairs today f op =
-    same (usesBit f 0 op) (isEnvelope op) ∷ same (usesBit f 1 op) (isAdmin op) ∷ same (usesBit f 2 op) (isAutoFreezeOrAccept today op)
-    ∷ same (usesBit f 3 op) (isReason today op)
-    ∷ same (usesOf f op).envelope (isEnvelope op) ∷ same (usesOf f op).target (isEnvelope op) ∷ same (usesOf f op).amount (isAmount op)
-    ∷ same (usesOf f op).until (isUntil op) ∷ same (usesOf f op).link (isLink op) ∷ same (usesOf f op).hash (isHash op) ∷ []
+    same (uses_bit f 0 op) (is_envelope op) ∷ same (uses_bit f 1 op) (is_admin op) ∷ same (uses_bit f 2 op) (is_auto_freeze_or_accept today op)
+    ∷ same (uses_bit f 3 op) (is_reason today op)
+    ∷ same (uses_of f op).envelope (is_envelope op) ∷ same (uses_of f op).target (is_envelope op) ∷ same (uses_of f op).amount (is_amount op)
+    ∷ same (uses_of f op).until (is_until op) ∷ same (uses_of f op).link (is_link op) ∷ same (uses_of f op).hash (is_hash op) ∷ []
 
 -- what is no operation of the form is not asked about
 abbrev skipped : Form → ℕ → Bool
-skipped f op = eqb op 0 || not (inForm f op)
+skipped f op = eqb op 0 || not (in_form f op)
 
-claim : (f : Form) → T (every (LAST-OPERATION + 1) (λ op. skipped f op || all (pairs (isToday f) f op)))
-unfolding every usesOf
+claim : (f : Form) → T (every (LAST_OPERATION + 1) (λ op. skipped f op || all (pairs (is_today f) f op)))
+unfolding every uses_of
 claim Old = tt
 claim Today = tt
 
@@ -80,42 +80,42 @@ holds : (b : Bool) → T b → b ≡ true
 holds true t = refl
 holds false t = absurd t
 
-agree : (f : Form) (op : ℕ) → 1 ≤ op → op ≤ LAST-OPERATION → inForm f op ≡ true → (k : ℕ) → get_or (pairs (isToday f) f op) k true ≡ true
+agree : (f : Form) (op : ℕ) → 1 ≤ op → op ≤ LAST_OPERATION → in_form f op ≡ true → (k : ℕ) → get_or (pairs (is_today f) f op) k true ≡ true
 agree f op a b known k =
-    let e = holds _ (below (λ op. skipped f op || all (pairs (isToday f) f op)) (LAST-OPERATION + 1) (claim f) op (omega arith)) in
-    all-at (pairs (isToday f) f op) (or-other (skipped f op) (all (pairs (isToday f) f op)) (rw (ne_eqb op 0 (omega arith), known)) e) k
+    let e = holds _ (below (λ op. skipped f op || all (pairs (is_today f) f op)) (LAST_OPERATION + 1) (claim f) op (omega arith)) in
+    all_at (pairs (is_today f) f op) (or_other (skipped f op) (all (pairs (is_today f) f op)) (rw (ne_eqb op 0 (omega arith), known)) e) k
 
 -- ---- the fields, by any tests of what is used: the definition's tests in their order
-abbrev restBy : Bool → Bool → Bool → Bool → Bool → Bool → Bool → Bool → Bool → Bool → Submission → List Bool
-restBy b0 b1 b2 b3 e t a u l h s =
-    all (usedOrZero b0 (bit 0 s.flags) ∷ usedOrZero b1 (bit 1 s.flags) ∷ usedOrZero b2 (bit 2 s.flags) ∷ usedOrZero b3 (bit 3 s.flags) ∷ ltb s.flags 16 ∷ [])
-    ∷ bitsApart s.flags
-    ∷ usedOrZero e s.signer ∷ usedOrZero e s.nonce ∷ usedOrZero e s.issued ∷ usedOrZero e s.expires
-    ∷ usedOrZero t s.target ∷ usedOrZero a s.amount ∷ usedOrZero u s.until ∷ usedOrZero l s.link
-    ∷ usedOrZero h s.hash0 ∷ usedOrZero h s.hash1 ∷ usedOrZero h s.hash2 ∷ usedOrZero h s.hash3
+abbrev rest_by : Bool → Bool → Bool → Bool → Bool → Bool → Bool → Bool → Bool → Bool → Submission → List Bool
+rest_by b0 b1 b2 b3 e t a u l h s =
+    all (used_or_zero b0 (bit 0 s.flags) ∷ used_or_zero b1 (bit 1 s.flags) ∷ used_or_zero b2 (bit 2 s.flags) ∷ used_or_zero b3 (bit 3 s.flags) ∷ ltb s.flags 16 ∷ [])
+    ∷ bits_apart s.flags
+    ∷ used_or_zero e s.signer ∷ used_or_zero e s.nonce ∷ used_or_zero e s.issued ∷ used_or_zero e s.expires
+    ∷ used_or_zero t s.target ∷ used_or_zero a s.amount ∷ used_or_zero u s.until ∷ used_or_zero l s.link
+    ∷ used_or_zero h s.hash0 ∷ used_or_zero h s.hash1 ∷ used_or_zero h s.hash2 ∷ used_or_zero h s.hash3
     ∷ (eqb s.op SWEEP || not (eqb s.signer 0))
-    ∷ leb s.now LAST-TIME-MS ∷ leb s.issued LAST-TIME-MS ∷ leb s.expires LAST-TIME-MS ∷ leb s.until LAST-TIME-MS
+    ∷ leb s.now LAST_TIME_MS ∷ leb s.issued LAST_TIME_MS ∷ leb s.expires LAST_TIME_MS ∷ leb s.until LAST_TIME_MS
     ∷ leb s.issued s.expires ∷ []
 
 -- by the code's
-abbrev codeTests : Bool → Submission → List Bool
-codeTests today s =
+abbrev code_tests : Bool → Submission → List Bool
+code_tests today s =
     let op = s.op in
-    restBy (isEnvelope op) (isAdmin op) (isAutoFreezeOrAccept today op) (isReason today op) (isEnvelope op) (isEnvelope op) (isAmount op) (isUntil op) (isLink op) (isHash op) s
+    rest_by (is_envelope op) (is_admin op) (is_auto_freeze_or_accept today op) (is_reason today op) (is_envelope op) (is_envelope op) (is_amount op) (is_until op) (is_link op) (is_hash op) s
 
-abbrev pub codeFormed : Bool → Submission → Bool
-codeFormed today s = leb 1 s.op && (leb s.op LAST-OPERATION && (not (today && eqb s.op OLD-DISPUTE) && all (codeTests today s)))
+abbrev pub code_formed : Bool → Submission → Bool
+code_formed today s = leb 1 s.op && (leb s.op LAST_OPERATION && (not (today && eqb s.op OLD_DISPUTE) && all (code_tests today s)))
 
 -- by the table's
-abbrev tableTests : Form → Submission → List Bool
-tableTests f s =
+abbrev table_tests : Form → Submission → List Bool
+table_tests f s =
     let op = s.op in
-    let v = usesOf f op in
-    restBy (usesBit f 0 op) (usesBit f 1 op) (usesBit f 2 op) (usesBit f 3 op) v.envelope v.target v.amount v.until v.link v.hash s
+    let v = uses_of f op in
+    rest_by (uses_bit f 0 op) (uses_bit f 1 op) (uses_bit f 2 op) (uses_bit f 3 op) v.envelope v.target v.amount v.until v.link v.hash s
 
 -- which is what the definition says: a bit is at most what is used of it, or it is used or zero
-bit-free : (k flags used : ℕ) → leb (bit k flags) (bit k used) ≡ usedOrZero (eqb (bit k used) 1) (bit k flags)
-bit-free k flags used = go (bit k flags) (bit k used) (omega arith) (omega arith)
+bit_free : (k flags used : ℕ) → leb (bit k flags) (bit k used) ≡ used_or_zero (eqb (bit k used) 1) (bit k flags)
+bit_free k flags used = go (bit k flags) (bit k used) (omega arith) (omega arith)
   where
     go : (b u : ℕ) → b < 2 → u < 2 → leb b u ≡ eqb u 1 || eqb b 0
     go zero zero hb hu = refl
@@ -126,12 +126,12 @@ bit-free k flags used = go (bit k flags) (bit k used) (omega arith) (omega arith
     go zero (suc (suc u)) hb hu = absurd (omega arith)
     go (suc zero) (suc (suc u)) hb hu = absurd (omega arith)
 
-defined : (f : Form) (s : Submission) → leb 1 s.op && (leb s.op LAST-OPERATION && (inForm f s.op && all (tableTests f s))) ≡ wellFormedBy f s
-unfolding wellFormedBy
+defined : (f : Form) (s : Submission) → leb 1 s.op && (leb s.op LAST_OPERATION && (in_form f s.op && all (table_tests f s))) ≡ well_formed_by f s
+unfolding well_formed_by
 defined f s =
     let flags = s.flags in
-    let u = (usesOf f s.op).bits in
-    rw (bit-free 0 flags u, bit-free 1 flags u, bit-free 2 flags u, bit-free 3 flags u)
+    let u = (uses_of f s.op).bits in
+    rw (bit_free 0 flags u, bit_free 1 flags u, bit_free 2 flags u, bit_free 3 flags u)
 
 -- only the operations of the form are asked about
 guarded : (a b c : Bool) {x y : Bool} → (a ≡ true → b ≡ true → c ≡ true → x ≡ y) → a && (b && (c && x)) ≡ a && (b && (c && y))
@@ -141,30 +141,30 @@ guarded true false c f = refl
 guarded false b c f = refl
 
 -- the code's test of whether it is one
-known : (f : Form) (op : ℕ) → not (isToday f && eqb op OLD-DISPUTE) ≡ inForm f op
+known : (f : Form) (op : ℕ) → not (is_today f && eqb op OLD_DISPUTE) ≡ in_form f op
 known Old op = refl
 known Today op = refl
 
-pub formed : (f : Form) (s : Submission) {t : Bool} → t ≡ isToday f → codeFormed t s ≡ wellFormedBy f s
+pub formed : (f : Form) (s : Submission) {t : Bool} → t ≡ is_today f → code_formed t s ≡ well_formed_by f s
 formed f s today =
-    ap (λ (t : Bool). codeFormed t s) today
-    ∙ ap (λ (k : Bool). leb 1 s.op && (leb s.op LAST-OPERATION && (k && all (codeTests (isToday f) s)))) (known f s.op)
-    ∙ guarded (leb 1 s.op) (leb s.op LAST-OPERATION) (inForm f s.op) (λ a b k. alike (agree f s.op (leb-true 1 s.op a) (leb-true s.op LAST-OPERATION b) k))
+    ap (λ (t : Bool). code_formed t s) today
+    ∙ ap (λ (k : Bool). leb 1 s.op && (leb s.op LAST_OPERATION && (k && all (code_tests (is_today f) s)))) (known f s.op)
+    ∙ guarded (leb 1 s.op) (leb s.op LAST_OPERATION) (in_form f s.op) (λ a b k. alike (agree f s.op (leb-true 1 s.op a) (leb-true s.op LAST_OPERATION b) k))
     ∙ defined f s
   where
-    alike : ((k : ℕ) → get_or (pairs (isToday f) f s.op) k true ≡ true) → all (codeTests (isToday f) s) ≡ all (tableTests f s)
+    alike : ((k : ℕ) → get_or (pairs (is_today f) f s.op) k true ≡ true) → all (code_tests (is_today f) s) ≡ all (table_tests f s)
     alike at =
         let op = s.op in
-        let v = usesOf f s.op in
+        let v = uses_of f s.op in
         rw (
-          same-eq (usesBit f 0 s.op) (isEnvelope s.op) (at 0),
-          same-eq (usesBit f 1 s.op) (isAdmin s.op) (at 1),
-          same-eq (usesBit f 2 s.op) (isAutoFreezeOrAccept (isToday f) s.op) (at 2),
-          same-eq (usesBit f 3 s.op) (isReason (isToday f) s.op) (at 3),
-          same-eq v.envelope (isEnvelope s.op) (at 4),
-          same-eq v.target (isEnvelope s.op) (at 5),
-          same-eq v.amount (isAmount s.op) (at 6),
-          same-eq v.until (isUntil s.op) (at 7),
-          same-eq v.link (isLink s.op) (at 8),
-          same-eq v.hash (isHash s.op) (at 9),
+          same_eq (uses_bit f 0 s.op) (is_envelope s.op) (at 0),
+          same_eq (uses_bit f 1 s.op) (is_admin s.op) (at 1),
+          same_eq (uses_bit f 2 s.op) (is_auto_freeze_or_accept (is_today f) s.op) (at 2),
+          same_eq (uses_bit f 3 s.op) (is_reason (is_today f) s.op) (at 3),
+          same_eq v.envelope (is_envelope s.op) (at 4),
+          same_eq v.target (is_envelope s.op) (at 5),
+          same_eq v.amount (is_amount s.op) (at 6),
+          same_eq v.until (is_until s.op) (at 7),
+          same_eq v.link (is_link s.op) (at 8),
+          same_eq v.hash (is_hash s.op) (at 9),
         )

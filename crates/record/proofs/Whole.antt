@@ -7,67 +7,67 @@ use lib.Dec.{T, eqb, leb, lit≤}
 use lib.ListN.{get_or, set, length, length-set}
 use lib.Seq.{sets}
 use borrow.Author.Tests.{eq-eqb, ne_eqb}
-use Rattle.rules.specs.Limits.{RECORD-BYTES, MARK-0, MARK-1}
-use Rattle.rules.specs.Record.{decode, encode, words_of, word_bytes, nothing, wellFormedBy, wellFormed, acceptedBy, read_by, writeOf}
+use Rattle.rules.specs.Limits.{RECORD_BYTES, MARK_0, MARK_1}
+use Rattle.rules.specs.Record.{decode, encode, words_of, word_bytes, nothing, well_formed_by, well_formed, accepted_by, read_by, write_of}
 use Rattle.rules.specs.declared.Form.{Form}
 use Rattle.rules.specs.declared.Submission.{Submission}
 use Rattle.rules.specs.declared.Read.{Read}
-use Rattle.rules.proofs.Rows.{sets-whole}
+use Rattle.rules.proofs.Rows.{sets_whole}
 
 -- a place of a record is within it
-pub room : (b : List ℕ) → length b ≡ RECORD-BYTES → {m : ℕ} → T (leb m RECORD-BYTES) → m ≤ length b
+pub room : (b : List ℕ) → length b ≡ RECORD_BYTES → {m : ℕ} → T (leb m RECORD_BYTES) → m ≤ length b
 room b h {m} t = subst (λ (n : ℕ). m ≤ n) (sym h) (lit≤ t)
 
 -- ---- the reader
 abbrev refused : Read
 refused = record { number = 3; submission = nothing }
 
-pub read_short : (f : Form) (b : List ℕ) (r : Read) → r ≡ refused → (length b ≡ RECORD-BYTES → ⊥) → r ≡ read_by f b
-unfolding read_by acceptedBy
-read_short f b r x n = rw (ne_eqb (length b) RECORD-BYTES n) x
+pub read_short : (f : Form) (b : List ℕ) (r : Read) → r ≡ refused → (length b ≡ RECORD_BYTES → ⊥) → r ≡ read_by f b
+unfolding read_by accepted_by
+read_short f b r x n = rw (ne_eqb (length b) RECORD_BYTES n) x
 
 -- the code's tests of mark and form
 abbrev Marked : List ℕ → Bool → Bool
-Marked b w = eqb (get_or b 0 0) MARK-0 && (eqb (get_or b 1 0) MARK-1 && w)
+Marked b w = eqb (get_or b 0 0) MARK_0 && (eqb (get_or b 1 0) MARK_1 && w)
 
-read-by : (f : Form) (b : List ℕ) (s : Submission) {w : Bool} → length b ≡ RECORD-BYTES → s ≡ decode b → w ≡ wellFormedBy f s
+read_by_lem : (f : Form) (b : List ℕ) (s : Submission) {w : Bool} → length b ≡ RECORD_BYTES → s ≡ decode b → w ≡ well_formed_by f s
     → cond (Marked b w) (record { number = 0; submission = s }) refused ≡ read_by f b
-unfolding read_by acceptedBy
-read-by f b s l x y = rw (eq-eqb (length b) RECORD-BYTES l, y, x)
+unfolding read_by accepted_by
+read_by_lem f b s l x y = rw (eq-eqb (length b) RECORD_BYTES l, y, x)
 
-pub read-there : (f : Form) (b : List ℕ) (s : Submission) {w : Bool} → length b ≡ RECORD-BYTES → s ≡ decode b → w ≡ wellFormedBy f s → Marked b w ≡ true
+pub read_there : (f : Form) (b : List ℕ) (s : Submission) {w : Bool} → length b ≡ RECORD_BYTES → s ≡ decode b → w ≡ well_formed_by f s → Marked b w ≡ true
     → record { number = 0; submission = s } ≡ read_by f b
-read-there f b s l x y t = rw t at (read-by f b s l x y)
+read_there f b s l x y t = rw t at (read_by_lem f b s l x y)
 
-pub read-malformed : (f : Form) (b : List ℕ) (s : Submission) {w : Bool} (r : Read) → r ≡ refused → length b ≡ RECORD-BYTES → s ≡ decode b → w ≡ wellFormedBy f s → Marked b w ≡ false
+pub read_malformed : (f : Form) (b : List ℕ) (s : Submission) {w : Bool} (r : Read) → r ≡ refused → length b ≡ RECORD_BYTES → s ≡ decode b → w ≡ well_formed_by f s → Marked b w ≡ false
     → r ≡ read_by f b
-read-malformed f b s r z l x y t = z ∙ rw t at (read-by f b s l x y)
+read_malformed f b s r z l x y t = z ∙ rw t at (read_by_lem f b s l x y)
 
 -- ---- the writer
 -- the first four bytes stored, and then the words
 abbrev Headed : List ℕ → Submission → List ℕ
-Headed out s = set (set (set (set out 0 MARK-0) 1 MARK-1) 2 s.op) 3 s.flags
+Headed out s = set (set (set (set out 0 MARK_0) 1 MARK_1) 2 s.op) 3 s.flags
 
 pub headed : (out : List ℕ) (s : Submission) → length (Headed out s) ≡ length out
 headed out s = simp length-set
 
-pub headed-room : (out : List ℕ) (s : Submission) → length out ≡ RECORD-BYTES → RECORD-BYTES ≤ length (Headed out s)
-headed-room out s h = room (Headed out s) (headed out s ∙ h) tt
+pub headed_room : (out : List ℕ) (s : Submission) → length out ≡ RECORD_BYTES → RECORD_BYTES ≤ length (Headed out s)
+headed_room out s h = room (Headed out s) (headed out s ∙ h) tt
 
-pub stored : (out out' : List ℕ) (s : Submission) → length out ≡ RECORD-BYTES → out' ≡ sets (Headed out s) 4 (word_bytes (words_of s)) → out' ≡ encode s
+pub stored : (out out' : List ℕ) (s : Submission) → length out ≡ RECORD_BYTES → out' ≡ sets (Headed out s) 4 (word_bytes (words_of s)) → out' ≡ encode s
 unfolding encode
-stored out out' s h x = x ∙ sets-whole out (encode s) h
+stored out out' s h x = x ∙ sets_whole out (encode s) h
 
-pub write-short : (s : Submission) (out : List ℕ) → (length out ≡ RECORD-BYTES → ⊥) → record { number = 3; out = out } ≡ writeOf s out
-unfolding writeOf
-write-short s out n = rw (ne_eqb (length out) RECORD-BYTES n)
+pub write_short : (s : Submission) (out : List ℕ) → (length out ≡ RECORD_BYTES → ⊥) → record { number = 3; out = out } ≡ write_of s out
+unfolding write_of
+write_short s out n = rw (ne_eqb (length out) RECORD_BYTES n)
 
-pub write-there : (s : Submission) (out out' : List ℕ) {w : Bool} → length out ≡ RECORD-BYTES → w ≡ wellFormed s → w ≡ true → out' ≡ encode s
-    → record { number = 0; out = out' } ≡ writeOf s out
-unfolding writeOf
-write-there s out out' l y t x = rw (eq-eqb (length out) RECORD-BYTES l, ← y, t, x)
+pub write_there : (s : Submission) (out out' : List ℕ) {w : Bool} → length out ≡ RECORD_BYTES → w ≡ well_formed s → w ≡ true → out' ≡ encode s
+    → record { number = 0; out = out' } ≡ write_of s out
+unfolding write_of
+write_there s out out' l y t x = rw (eq-eqb (length out) RECORD_BYTES l, ← y, t, x)
 
-pub write-malformed : (s : Submission) (out : List ℕ) {w : Bool} → length out ≡ RECORD-BYTES → w ≡ wellFormed s → w ≡ false
-    → record { number = 3; out = out } ≡ writeOf s out
-unfolding writeOf
-write-malformed s out l y t = rw (eq-eqb (length out) RECORD-BYTES l, ← y, t)
+pub write_malformed : (s : Submission) (out : List ℕ) {w : Bool} → length out ≡ RECORD_BYTES → w ≡ well_formed s → w ≡ false
+    → record { number = 3; out = out } ≡ write_of s out
+unfolding write_of
+write_malformed s out l y t = rw (eq-eqb (length out) RECORD_BYTES l, ← y, t)

@@ -3,6 +3,6 @@ use Rattle.std.specs.Prelude.{Bool, true, false}
 use Rattle.rules.specs.declared.Form.{Form}
 use Rattle.rules.specs.declared.Form.TheVariants.{Old, Today}
 
-abbrev pub isToday : Form → Bool
-isToday Old = false
-isToday Today = true
+abbrev pub is_today : Form → Bool
+is_today Old = false
+is_today Today = true

@@ -1,7 +1,7 @@
 // Whether fields are those of a record that is not malformed, by a form.
 ghost use Rattle.std.specs.Prelude.{◌≡◌};
-ghost use Rattle.rules.specs.Record.{wellFormedBy};
-ghost use Rattle.record.specs.Forms.{isToday};
+ghost use Rattle.rules.specs.Record.{well_formed_by};
+ghost use Rattle.record.specs.Forms.{is_today};
 
 use rules::limits::{
     ACCEPTS, ADMIN, AUTO_OR_FREEZE, CAPS, CLAIM, CLOSE, FREEZE, GRANT, LAST_OPERATION,
@@ -12,7 +12,7 @@ use rules::{Form, Submission};
 
 // Whether it is today's.
 fn is_today(form: Form) -> bool
-    ensures { result ≡ isToday form }
+    ensures { result ≡ is_today form }
 {
     match form {
         Form::Old => false,
@@ -22,7 +22,7 @@ fn is_today(form: Form) -> bool
 
 // Whatever the operation does not use is zero, and the rest is within its bounds. The tests are joined by `&` in the definition's order.
 pub fn well_formed(form: Form, s: Submission) -> bool
-    ensures { result ≡ wellFormedBy form s }
+    ensures { result ≡ well_formed_by form s }
 {
     let op = s.op;
     let flags = s.flags;

@@ -2,8 +2,8 @@
 #![tactic(auto)]
 
 ghost use Rattle.std.specs.Prelude.{◌≡◌, length};
-ghost use Rattle.rules.specs.Limits.{RECORD-BYTES};
-ghost use Rattle.rules.specs.Record.{decode, encode, nothing, read_by, read_of, Written, writeOf};
+ghost use Rattle.rules.specs.Limits.{RECORD_BYTES};
+ghost use Rattle.rules.specs.Record.{decode, encode, nothing, read_by, read_of, Written, write_of};
 ghost use Rattle.rules.specs.declared.Read.{Read};
 
 use rules::limits::{MALFORMED_RECORD, MARK_0, MARK_1, RECORD_BYTES};
@@ -40,7 +40,7 @@ fn malformed() -> Read
 
 // The fields that 108 bytes say.
 fn fields(b: &[u8]) -> Submission
-    requires { length b.now ≡ RECORD-BYTES }
+    requires { length b.now ≡ RECORD_BYTES }
     ensures { result ≡ decode b.now }
 {
     Submission {
@@ -90,7 +90,7 @@ pub fn read_record(bytes: &[u8]) -> Read
 
 // Stores the bytes of a submission.
 fn put_fields(s: Submission, out: &mut [u8])
-    requires { length out.old ≡ RECORD-BYTES }
+    requires { length out.old ≡ RECORD_BYTES }
     ensures { out.new ≡ encode s }
 {
     out[0] = MARK_0;
@@ -106,7 +106,7 @@ fn put_fields(s: Submission, out: &mut [u8])
 
 // Writes a record: 0 and its bytes, or 3 and the output as it was.
 pub fn write_record(s: Submission, out: &mut [u8]) -> u64
-    ensures { ◌≡◌ {A = Written} (record { number = result; out = out.new }) (writeOf s out.old) }
+    ensures { ◌≡◌ {A = Written} (record { number = result; out = out.new }) (write_of s out.old) }
 {
     if out.len() != RECORD_BYTES {
         return MALFORMED_RECORD;

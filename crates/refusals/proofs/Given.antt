@@ -7,79 +7,79 @@ use Prim.Native.Nat.{ℕ, ◌*◌, ◌≤◌, ◌<◌}
 use lib.ListN.{get_or, length}
 use lib.Dec.{eqb, leb}
 use borrow.Author.Tests.{leb-true}
-use Rattle.rules.specs.Limits.{WALLET-LEN, JOURNAL-LEN, MAX-WALLETS, MAX-ESCROWS, MAX-RECEIPTS, MAX-AMOUNT-MICRO, LAST-TIME-MS}
-use Rattle.rules.specs.Limits.{WALLETS, ESCROWS, RECEIPTS, ENTRIES, OPERATION, TRANSFER, OPEN, OLD-DISPUTE, LAST-OPERATION}
-use Rattle.rules.specs.Ledger.{Ledger, ledgerOf, entry}
+use Rattle.rules.specs.Limits.{WALLET_LEN, JOURNAL_LEN, MAX_WALLETS, MAX_ESCROWS, MAX_RECEIPTS, MAX_AMOUNT_MICRO, LAST_TIME_MS}
+use Rattle.rules.specs.Limits.{WALLETS, ESCROWS, RECEIPTS, ENTRIES, OPERATION, TRANSFER, OPEN, OLD_DISPUTE, LAST_OPERATION}
+use Rattle.rules.specs.Ledger.{Ledger, ledger_of, entry}
 use Rattle.rules.specs.Sound.{between}
 use Rattle.rules.specs.Refusals.{one_of, paying}
 use Rattle.rules.specs.declared.Edition.{Edition}
 use Rattle.rules.specs.declared.Submission.{Submission}
-use Rattle.rules.proofs.Bools.{and-snd}
+use Rattle.rules.proofs.Bools.{and_snd}
 use Rattle.rules.proofs.Rows.{rows_fit}
-use Rattle.rules.proofs.Tests.{header-wide, Few, counts-few, Right-ledger, sound-says, entry-says}
-use Rattle.rules.proofs.Formed.{Formed, formed-says}
+use Rattle.rules.proofs.Tests.{header_wide, Few, counts_few, RightLedger, sound_says, entry_says}
+use Rattle.rules.proofs.Formed.{Formed, formed_says}
 use Rattle.payments.specs.Entries.{Entries}
 use Rattle.refusals.specs.Checkable.{Checkable}
 
-module _ {ed : Edition} {h w e r j : List ℕ} {s : Submission} (given : Checkable (ledgerOf ed h w e r j) s) where
+module _ {ed : Edition} {h w e r j : List ℕ} {s : Submission} (given : Checkable (ledger_of ed h w e r j) s) where
   abbrev L : Ledger
-  L = ledgerOf ed h w e r j
+  L = ledger_of ed h w e r j
 
-  right : Right-ledger L
-  right = sound-says L given.ready.sound
+  right : RightLedger L
+  right = sound_says L given.ready.sound
 
   few : Few L
-  few = counts-few L given.ready.lengths right.header.within
+  few = counts_few L given.ready.lengths right.header.within
 
   form : Formed s
-  form = formed-says s given.formed
+  form = formed_says s given.formed
 
-  pub header-there : ENTRIES < length h
-  header-there = header-wide L given.ready.lengths given.sized.header
+  pub header_there : ENTRIES < length h
+  header_there = header_wide L given.ready.lengths given.sized.header
 
-  pub wallets-few : get_or h WALLETS 0 ≤ MAX-WALLETS
-  wallets-few = few.wallets
+  pub wallets_few : get_or h WALLETS 0 ≤ MAX_WALLETS
+  wallets_few = few.wallets
 
-  pub escrows-few : get_or h ESCROWS 0 ≤ MAX-ESCROWS
-  escrows-few = few.escrows
+  pub escrows_few : get_or h ESCROWS 0 ≤ MAX_ESCROWS
+  escrows_few = few.escrows
 
-  pub receipts-few : get_or h RECEIPTS 0 ≤ MAX-RECEIPTS
-  receipts-few = few.receipts
+  pub receipts_few : get_or h RECEIPTS 0 ≤ MAX_RECEIPTS
+  receipts_few = few.receipts
 
-  pub wallets-fit : get_or h WALLETS 0 * WALLET-LEN ≤ length w
-  wallets-fit = rows_fit WALLET-LEN (get_or h WALLETS 0) w right.header.within.wallets
+  pub wallets_fit : get_or h WALLETS 0 * WALLET_LEN ≤ length w
+  wallets_fit = rows_fit WALLET_LEN (get_or h WALLETS 0) w right.header.within.wallets
 
-  pub escrows-fit : get_or h ESCROWS 0 * ed.escrow ≤ length e
-  escrows-fit = rows_fit ed.escrow (get_or h ESCROWS 0) e right.header.within.escrows
+  pub escrows_fit : get_or h ESCROWS 0 * ed.escrow ≤ length e
+  escrows_fit = rows_fit ed.escrow (get_or h ESCROWS 0) e right.header.within.escrows
 
-  pub journal-fit : get_or h ENTRIES 0 * JOURNAL-LEN ≤ length j
-  journal-fit = rows_fit JOURNAL-LEN (get_or h ENTRIES 0) j right.header.within.journal
+  pub journal_fit : get_or h ENTRIES 0 * JOURNAL_LEN ≤ length j
+  journal_fit = rows_fit JOURNAL_LEN (get_or h ENTRIES 0) j right.header.within.journal
 
-  paid-amount : (op amount : ℕ) → one_of paying op ≡ true → not (eqb op TRANSFER || eqb op OPEN) || between 1 MAX-AMOUNT-MICRO amount ≡ true → amount ≤ MAX-AMOUNT-MICRO
-  paid-amount op amount o t =
+  paid_amount : (op amount : ℕ) → one_of paying op ≡ true → not (eqb op TRANSFER || eqb op OPEN) || between 1 MAX_AMOUNT_MICRO amount ≡ true → amount ≤ MAX_AMOUNT_MICRO
+  paid_amount op amount o t =
       let pays : eqb op TRANSFER || eqb op OPEN ≡ true = rw (or-false (eqb op OPEN)) at o in
-      let both : between 1 MAX-AMOUNT-MICRO amount ≡ true = rw pays at t in
-      leb-true amount MAX-AMOUNT-MICRO (and-snd (leb 1 amount) (leb amount MAX-AMOUNT-MICRO) both)
+      let both : between 1 MAX_AMOUNT_MICRO amount ≡ true = rw pays at t in
+      leb-true amount MAX_AMOUNT_MICRO (and_snd (leb 1 amount) (leb amount MAX_AMOUNT_MICRO) both)
 
   pub entries : Entries j (get_or h ENTRIES 0)
   entries = record {
-    fit = journal-fit;
+    fit = journal_fit;
     few = few.journal;
-    times = λ i l. (entry-says L i (right.journal i l)).time;
-    amounts = λ i l o. paid-amount (entry L i OPERATION) _ o (entry-says L i (right.journal i l)).amount;
+    times = λ i l. (entry_says L i (right.journal i l)).time;
+    amounts = λ i l o. paid_amount (entry L i OPERATION) _ o (entry_says L i (right.journal i l)).amount;
   }
 
-  pub op-low : 1 ≤ s.op
-  op-low = form.low
+  pub op_low : 1 ≤ s.op
+  op_low = form.low
 
-  pub op-high : s.op ≤ LAST-OPERATION
-  op-high = form.high
+  pub op_high : s.op ≤ LAST_OPERATION
+  op_high = form.high
 
-  pub op-not-8 : s.op ≢ OLD-DISPUTE
-  op-not-8 = form.not-8
+  pub op_not_8 : s.op ≢ OLD_DISPUTE
+  op_not_8 = form.not_8
 
-  pub now-time : s.now ≤ LAST-TIME-MS
-  now-time = form.now-right
+  pub now_time : s.now ≤ LAST_TIME_MS
+  now_time = form.now_right
 
-  pub issued-time : s.issued ≤ LAST-TIME-MS
-  issued-time = form.issued-right
+  pub issued_time : s.issued ≤ LAST_TIME_MS
+  issued_time = form.issued_right

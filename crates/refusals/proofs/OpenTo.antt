@@ -6,21 +6,21 @@ use Prim.Native.Nat.{ℕ, ◌+◌, ◌≤◌}
 use native.Mathlib.Omega.{arith}
 use native.Mathlib.Numerals.{add-one}
 use lib.Dec.{eqb}
-use Rattle.rules.specs.Limits.{TO, ESCROW-STATE, IS-OPEN}
+use Rattle.rules.specs.Limits.{TO, ESCROW_STATE, IS_OPEN}
 use Rattle.rules.specs.Table.{word, some}
-use Rattle.rules.specs.Wallets.{openTo}
+use Rattle.rules.specs.Wallets.{open_to}
 
-pub open_none : (len : ℕ) (e : List ℕ) (id : ℕ) → false ≡ openTo len e 0 id
-unfolding openTo some
+pub open_none : (len : ℕ) (e : List ℕ) (id : ℕ) → false ≡ open_to len e 0 id
+unfolding open_to some
 open_none len e id = refl
 
-pub open_next : (len : ℕ) (e : List ℕ) (i id : ℕ) (found : Bool) → found ≡ openTo len e i id
-    → (more : Bool) → more ≡ (eqb (word e len i TO) id && eqb (word e len i ESCROW-STATE) IS-OPEN) → found || more ≡ openTo len e (i + 1) id
-unfolding openTo some
+pub open_next : (len : ℕ) (e : List ℕ) (i id : ℕ) (found : Bool) → found ≡ open_to len e i id
+    → (more : Bool) → more ≡ (eqb (word e len i TO) id && eqb (word e len i ESCROW_STATE) IS_OPEN) → found || more ≡ open_to len e (i + 1) id
+unfolding open_to some
 open_next len e i id found k more m = rw (add-one i, k, m)
 
 -- the rows before i are all n
-pub open-all : (len : ℕ) (e : List ℕ) (n i id : ℕ) (found : Bool) → i ≤ n → n ≤ i → found ≡ openTo len e i id → found ≡ openTo len e n id
-open-all len e n i id found a b k =
+pub open_all : (len : ℕ) (e : List ℕ) (n i id : ℕ) (found : Bool) → i ≤ n → n ≤ i → found ≡ open_to len e i id → found ≡ open_to len e n id
+open_all len e n i id found a b k =
     let m : i ≡ n = omega arith in
-    k ∙ ap (λ (x : ℕ). openTo len e x id) m
+    k ∙ ap (λ (x : ℕ). open_to len e x id) m

@@ -6,10 +6,10 @@ use Prim.Native.Nat.{ℕ, ◌+◌, ◌≤◌, ◌<◌}
 use native.Mathlib.Decide.{ℕ_discrete}
 use native.Mathlib.Omega.{arith}
 use Rattle.rules.specs.Ledger.{Ledger}
-use Rattle.rules.specs.Refusals.{first, envelopeRefusals, operationRefusals}
+use Rattle.rules.specs.Refusals.{first, envelope_refusals, operation_refusals}
 use Rattle.rules.specs.declared.Submission.{Submission}
-use Rattle.rules.proofs.Refused.{numbered, first-stop, first-pass}
-use Rattle.refusals.specs.Checkable.{laterRefusals}
+use Rattle.rules.proofs.Refused.{numbered, first_stop, first_pass}
+use Rattle.refusals.specs.Checkable.{later_refusals}
 
 -- one of two operations that follow each other
 pub either : (n op : ℕ) → n ≤ op → op < n + 2 → (op ≡ n) ⊎ (op ≡ n + 1)
@@ -24,12 +24,12 @@ pub above : (n op : ℕ) → n ≤ op → (op ≡ n → ⊥) → n + 1 ≤ op
 above n op lo ne = omega (arith, ne)
 
 module _ (L : Ledger) (s : Submission) where
-  envelope-numbered : numbered (envelopeRefusals L s) ≡ true
-  unfolding envelopeRefusals
-  envelope-numbered = refl
+  envelope_numbered : numbered (envelope_refusals L s) ≡ true
+  unfolding envelope_refusals
+  envelope_numbered = refl
 
-  pub by-envelope : (x : ℕ) → x ≡ first (envelopeRefusals L s) → (x ≡ 0 → ⊥) → x ≡ first (laterRefusals L s)
-  by-envelope x e ne = e ∙ sym (first-stop (envelopeRefusals L s) (operationRefusals L s) (λ z. ne (e ∙ z)))
+  pub by_envelope : (x : ℕ) → x ≡ first (envelope_refusals L s) → (x ≡ 0 → ⊥) → x ≡ first (later_refusals L s)
+  by_envelope x e ne = e ∙ sym (first_stop (envelope_refusals L s) (operation_refusals L s) (λ z. ne (e ∙ z)))
 
-  pub by-operation : (x y : ℕ) → x ≡ first (envelopeRefusals L s) → x ≡ 0 → y ≡ first (operationRefusals L s) → y ≡ first (laterRefusals L s)
-  by-operation x y e z o = o ∙ sym (first-pass (envelopeRefusals L s) (operationRefusals L s) envelope-numbered (sym e ∙ z))
+  pub by_operation : (x y : ℕ) → x ≡ first (envelope_refusals L s) → x ≡ 0 → y ≡ first (operation_refusals L s) → y ≡ first (later_refusals L s)
+  by_operation x y e z o = o ∙ sym (first_pass (envelope_refusals L s) (operation_refusals L s) envelope_numbered (sym e ∙ z))

@@ -2,14 +2,14 @@
 use Rattle.std.specs.Prelude.{◌≡◌, List, ◌++◌, true}
 use Rattle.rules.specs.Ledger.{Ledger, Sized}
 use Rattle.rules.specs.Sound.{Ready}
-use Rattle.rules.specs.Record.{wellFormed}
-use Rattle.rules.specs.Refusals.{Refusal, envelopeRefusals, operationRefusals}
+use Rattle.rules.specs.Record.{well_formed}
+use Rattle.rules.specs.Refusals.{Refusal, envelope_refusals, operation_refusals}
 use Rattle.rules.specs.declared.Submission.{Submission}
 
 pub record Checkable (L : Ledger) (s : Submission) : Type 0 where
   pub sized : Sized L.edition
   pub ready : Ready L
-  pub formed : wellFormed s ≡ true
+  pub formed : well_formed s ≡ true
 
-abbrev pub laterRefusals : Ledger → Submission → List Refusal
-laterRefusals L s = envelopeRefusals L s ++ operationRefusals L s
+abbrev pub later_refusals : Ledger → Submission → List Refusal
+later_refusals L s = envelope_refusals L s ++ operation_refusals L s

@@ -1,11 +1,11 @@
 // Checks 12 to 43 of the operations that move no credits by themselves: sweep, freeze, caps and close.
 ghost use Rattle.std.specs.Prelude.{◌≡◌, ◌&&◌, ◌+◌, ◌*◌, ◌≤◌, ◌<◌, eqb, get_or, length};
-ghost use Rattle.rules.specs.Limits.{WALLET-LEN, ESCROW-LEN, MAX-WALLETS, WALLETS, ESCROWS, ENTRIES, SWEEP, FREEZE, CAPS, CLOSE, TO, ESCROW-STATE, IS-OPEN};
+ghost use Rattle.rules.specs.Limits.{WALLET_LEN, ESCROW_LEN, MAX_WALLETS, WALLETS, ESCROWS, ENTRIES, SWEEP, FREEZE, CAPS, CLOSE, TO, ESCROW_STATE, IS_OPEN};
 ghost use Rattle.rules.specs.Table.{word};
 ghost use Rattle.rules.specs.Ledger.{Ledger, Sized};
-ghost use Rattle.rules.specs.Moments.{any, ◌of-edition◌, ◌with-header◌, ◌with-wallets◌, ◌with-escrows◌, ◌with-journal◌};
-ghost use Rattle.rules.specs.Refusals.{first, operationRefusals};
-ghost use Rattle.rules.specs.Wallets.{openTo};
+ghost use Rattle.rules.specs.Moments.{any, ◌of_edition◌, ◌with_header◌, ◌with_wallets◌, ◌with_escrows◌, ◌with_journal◌};
+ghost use Rattle.rules.specs.Refusals.{first, operation_refusals};
+ghost use Rattle.rules.specs.Wallets.{open_to};
 
 use rules::limits::{
     BALANCE, ENTRIES, ESCROW_STATE, ESCROWS, IS_OPEN, JOURNAL_LEN, LOCKED, MAX_AMOUNT_MICRO,
@@ -16,7 +16,7 @@ use rules::{Edition, Submission, WalletState};
 // A sweep: check 12, of its limit.
 pub fn sweep_refusal(s: Submission) -> u64
     requires { s.op ≡ SWEEP }
-    ensures { (L : Ledger) → result ≡ first (operationRefusals L s) }
+    ensures { (L : Ledger) → result ≡ first (operation_refusals L s) }
 {
     let amount_out_of_range = !((1 <= s.amount) & (s.amount <= MAX_SWEEP_ROWS));
     rows::choose(amount_out_of_range, 12, 0)
@@ -24,8 +24,8 @@ pub fn sweep_refusal(s: Submission) -> u64
 
 // A freeze: checks 16, 43, 40, in this order. Target 0 is the system.
 pub fn freeze_refusal(header: &[u64], wallets: &[u64], journal: &[u64], s: Submission) -> u64
-    requires { (ENTRIES < length header.now) × (get_or header.now WALLETS 0 * WALLET-LEN ≤ length wallets.now) × (s.op ≡ FREEZE) }
-    ensures { (K : Ledger) → let L = any K with-header header with-wallets wallets with-journal journal in result ≡ first (operationRefusals L.entry s) }
+    requires { (ENTRIES < length header.now) × (get_or header.now WALLETS 0 * WALLET_LEN ≤ length wallets.now) × (s.op ≡ FREEZE) }
+    ensures { (K : Ledger) → let L = any K with_header header with_wallets wallets with_journal journal in result ≡ first (operation_refusals L.entry s) }
 {
     let count = header[WALLETS] as usize;
     let entries = header[ENTRIES] as usize;
@@ -41,8 +41,8 @@ pub fn freeze_refusal(header: &[u64], wallets: &[u64], journal: &[u64], s: Submi
 
 // New caps: checks 12, 16, 43, 40, in this order.
 pub fn caps_refusal(header: &[u64], wallets: &[u64], journal: &[u64], s: Submission) -> u64
-    requires { (ENTRIES < length header.now) × (get_or header.now WALLETS 0 * WALLET-LEN ≤ length wallets.now) × (s.op ≡ CAPS) }
-    ensures { (K : Ledger) → let L = any K with-header header with-wallets wallets with-journal journal in result ≡ first (operationRefusals L.entry s) }
+    requires { (ENTRIES < length header.now) × (get_or header.now WALLETS 0 * WALLET_LEN ≤ length wallets.now) × (s.op ≡ CAPS) }
+    ensures { (K : Ledger) → let L = any K with_header header with_wallets wallets with_journal journal in result ≡ first (operation_refusals L.entry s) }
 {
     let count = header[WALLETS] as usize;
     let entries = header[ENTRIES] as usize;
@@ -60,16 +60,16 @@ pub fn caps_refusal(header: &[u64], wallets: &[u64], journal: &[u64], s: Submiss
 
 // Whether the escrow in row i is to an id, and open.
 fn opens_to(escrows: &[u64], len: usize, i: usize, id: u64) -> bool
-    requires { (i * len + len ≤ length escrows.now) × (ESCROW-LEN ≤ len) }
-    ensures { result ≡ (eqb (word escrows.now len i TO) id && eqb (word escrows.now len i ESCROW-STATE) IS-OPEN) }
+    requires { (i * len + len ≤ length escrows.now) × (ESCROW_LEN ≤ len) }
+    ensures { result ≡ (eqb (word escrows.now len i TO) id && eqb (word escrows.now len i ESCROW_STATE) IS_OPEN) }
 {
     (escrows[i * len + TO] == id) & (escrows[i * len + ESCROW_STATE] == IS_OPEN)
 }
 
 // Whether one of the first n escrows to an id is open, stale or not.
 fn open_to(escrows: &[u64], len: usize, n: usize, id: u64) -> bool
-    requires { (n * len ≤ length escrows.now) × (ESCROW-LEN ≤ len) }
-    ensures { result ≡ openTo len escrows.now n id }
+    requires { (n * len ≤ length escrows.now) × (ESCROW_LEN ≤ len) }
+    ensures { result ≡ open_to len escrows.now n id }
 {
     let mut found = false;
     let mut i: usize = 0;
@@ -90,8 +90,8 @@ pub fn close_refusal(
     journal: &[u64],
     s: Submission,
 ) -> u64
-    requires { (ENTRIES < length header.now) × (get_or header.now WALLETS 0 ≤ MAX-WALLETS) × (get_or header.now WALLETS 0 * WALLET-LEN ≤ length wallets.now) × (get_or header.now ESCROWS 0 * edition.escrow ≤ length escrows.now) × (s.op ≡ CLOSE) × Sized edition }
-    ensures { (K : Ledger) → let L = any K of-edition edition with-header header with-wallets wallets with-escrows escrows with-journal journal in result ≡ first (operationRefusals L.entry s) }
+    requires { (ENTRIES < length header.now) × (get_or header.now WALLETS 0 ≤ MAX_WALLETS) × (get_or header.now WALLETS 0 * WALLET_LEN ≤ length wallets.now) × (get_or header.now ESCROWS 0 * edition.escrow ≤ length escrows.now) × (s.op ≡ CLOSE) × Sized edition }
+    ensures { (K : Ledger) → let L = any K of_edition edition with_header header with_wallets wallets with_escrows escrows with_journal journal in result ≡ first (operation_refusals L.entry s) }
 {
     let count = header[WALLETS] as usize;
     let held = header[ESCROWS] as usize;

@@ -4,8 +4,8 @@
 
 ghost use Rattle.std.specs.Prelude.{◌≡◌};
 ghost use Rattle.rules.specs.Moments.{tables, lent};
-ghost use Rattle.rules.specs.Refusals.{first, operationRefusals};
-ghost use Rattle.refusals.specs.Checkable.{Checkable, laterRefusals};
+ghost use Rattle.rules.specs.Refusals.{first, operation_refusals};
+ghost use Rattle.refusals.specs.Checkable.{Checkable, later_refusals};
 
 use rules::limits::{
     CAPS, CLAIM, CLOSE, FREEZE, GRANT, OPEN, REFUND, RELEASE, REPLY, SWEEP, TRANSFER,
@@ -25,7 +25,7 @@ fn operation_refusal(
     s: Submission,
 ) -> u64
     requires { Checkable (tables edition header wallets escrows receipts journal) s }
-    ensures { result ≡ first (operationRefusals (lent edition header wallets escrows receipts journal).entry s) }
+    ensures { result ≡ first (operation_refusals (lent edition header wallets escrows receipts journal).entry s) }
 {
     let op = s.op;
     match op {
@@ -54,7 +54,7 @@ pub fn refusal(
     s: Submission,
 ) -> u64
     requires { Checkable (tables edition header wallets escrows receipts journal) s }
-    ensures { result ≡ first (laterRefusals (lent edition header wallets escrows receipts journal).entry s) }
+    ensures { result ≡ first (later_refusals (lent edition header wallets escrows receipts journal).entry s) }
 {
     let number = envelope::envelope_refusal(header, journal, s);
     if number != 0 {

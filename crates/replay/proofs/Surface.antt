@@ -1,46 +1,46 @@
 -- THE DEMANDS OF THE CODE WITH REPLAYS. A call of `ledger`, `record` or `rules` as that surface shows it, or a replay, by its own contract; and so the
 -- demands of every call and of every run, and that what a run recorded agrees. `verdict`, which only tells in numbers what was found, is in `shows`.
 use mathlib.Core.Path.{refl, ap}
-use Rattle.rules.specs.Ledger.{first-edition}
-use Rattle.rules.specs.Replay.{verdictOf, told}
-use Rattle.rules.specs.Results.{Ran, exits, Result, by-replay, Meets}
-use Rattle.rules.specs.Runs.{Surface, Calls-are-listed, Calls-decide, Runs-add-up, Runs-refuse-retries, Retries-change-nothing, Runs-recordings-agree}
-use Rattle.rules.proofs.Runs.{calls-are-listed, calls-decide, runs-add-up, runs-refuse-retries, retries-change-nothing}
-use Rattle.rules.proofs.Recorded.{runs-recordings-agree}
-use Rattle.ledger.proofs.Surface as of-ledger
-use Rattle.replay.proofs.replay.Kinds as replay-kinds
-use Rattle.replay.proofs.replay.Reads as replay-reads
+use Rattle.rules.specs.Ledger.{first_edition}
+use Rattle.rules.specs.Replay.{verdict_of, told}
+use Rattle.rules.specs.Results.{Ran, exits, Result, by_replay, Meets}
+use Rattle.rules.specs.Runs.{Surface, CallsAreListed, CallsDecide, RunsAddUp, RunsRefuseRetries, RetriesChangeNothing, RunsRecordingsAgree}
+use Rattle.rules.proofs.Runs.{calls_are_listed, calls_decide, runs_add_up, runs_refuse_retries, retries_change_nothing}
+use Rattle.rules.proofs.Recorded.{runs_recordings_agree}
+use Rattle.ledger.proofs.Surface as of_ledger
+use Rattle.replay.proofs.replay.Kinds as replay_kinds
+use Rattle.replay.proofs.replay.Reads as replay_reads
 
 pub data Did : Type 0 where
-  did-ledger : of-ledger.Did → Did
-  did-replay : Ran replay-kinds.ps replay-kinds.r replay-reads.Learnt → Did
+  did_ledger : of_ledger.Did → Did
+  did_replay : Ran replay_kinds.ps replay_kinds.r replay_reads.Learnt → Did
 
 abbrev pub shows : Did → Result
-shows (did-ledger d) = of-ledger.shows d
-shows (did-replay x) =
-    by-replay (of-ledger.five x.args) (of-ledger.five (exits x)) x.args.1.1.1.1.1.0.now (verdictOf x.answer)
+shows (did_ledger d) = of_ledger.shows d
+shows (did_replay x) =
+    by_replay (of_ledger.five x.args) (of_ledger.five (exits x)) x.args.1.1.1.1.1.0.now (verdict_of x.answer)
 
-pub meets : (d : Did) → Meets first-edition (shows d)
-meets (did-ledger d) = of-ledger.meets d
-meets (did-replay x) = (refl, ap told x.meets)
+pub meets : (d : Did) → Meets first_edition (shows d)
+meets (did_ledger d) = of_ledger.meets d
+meets (did_replay x) = (refl, ap told x.meets)
 
 abbrev pub surface : Surface
-surface = record { Did = Did; edition = first-edition; sized = (of-ledger.surface).sized; shows = shows; meets = meets }
+surface = record { Did = Did; edition = first_edition; sized = (of_ledger.surface).sized; shows = shows; meets = meets }
 
-pub demand-1 : Calls-are-listed surface
-demand-1 = calls-are-listed surface
+pub demand_1 : CallsAreListed surface
+demand_1 = calls_are_listed surface
 
-pub demand-2 : Calls-decide surface
-demand-2 = calls-decide surface
+pub demand_2 : CallsDecide surface
+demand_2 = calls_decide surface
 
-pub demand-3 : Runs-add-up surface
-demand-3 = runs-add-up surface
+pub demand_3 : RunsAddUp surface
+demand_3 = runs_add_up surface
 
-pub the-retry : Runs-refuse-retries surface
-the-retry = runs-refuse-retries surface
+pub the_retry : RunsRefuseRetries surface
+the_retry = runs_refuse_retries surface
 
-pub the-retry-changes-nothing : Retries-change-nothing surface
-the-retry-changes-nothing = retries-change-nothing surface
+pub the_retry_changes_nothing : RetriesChangeNothing surface
+the_retry_changes_nothing = retries_change_nothing surface
 
-pub recordings-agree : Runs-recordings-agree surface
-recordings-agree = runs-recordings-agree surface
+pub recordings_agree : RunsRecordingsAgree surface
+recordings_agree = runs_recordings_agree surface

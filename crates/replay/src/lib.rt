@@ -3,12 +3,12 @@
 #![tactic(auto)]
 
 ghost use Rattle.std.specs.Prelude.{◌≡◌, ◌+◌, ◌≤◌, get_or, length};
-ghost use Rattle.rules.specs.Ledger.{Sized, first-edition};
-ghost use Rattle.rules.specs.Limits.{ENTRY-BYTES, ANSWER-AT, WORD-AT};
+ghost use Rattle.rules.specs.Ledger.{Sized, first_edition};
+ghost use Rattle.rules.specs.Limits.{ENTRY_BYTES, ANSWER_AT, WORD_AT};
 ghost use Rattle.rules.specs.Moments.{tables, lent};
-ghost use Rattle.rules.specs.Record.{leAt};
-ghost use Rattle.rules.specs.Recording.{cutShort};
-ghost use Rattle.rules.specs.Replay.{gone, answer, ended, replayOn, replay, verdictOf};
+ghost use Rattle.rules.specs.Record.{le_at};
+ghost use Rattle.rules.specs.Recording.{cut_short};
+ghost use Rattle.rules.specs.Replay.{gone, answer, ended, replay_on, replay, verdict_of};
 ghost use Rattle.rules.specs.Sound.{Ready};
 ghost use Rattle.rules.specs.Submit.{submit};
 
@@ -20,8 +20,8 @@ use rules::{Answer, Edition, FIRST, Found, Verdict};
 
 // The recorded answer of the entry that starts at a place.
 fn recorded_at(recording: &[u8], at: usize) -> Answer
-    requires { at + ENTRY-BYTES ≤ length recording.now }
-    ensures { result ≡ answer (get_or recording.now (at + ANSWER-AT) 0) (leAt 8 recording.now (at + WORD-AT)) }
+    requires { at + ENTRY_BYTES ≤ length recording.now }
+    ensures { result ≡ answer (get_or recording.now (at + ANSWER_AT) 0) (le_at 8 recording.now (at + WORD_AT)) }
 {
     let number = recording[at + ANSWER_AT] as u64;
     let word = word_bytes::word_at(recording, at + WORD_AT);
@@ -30,7 +30,7 @@ fn recorded_at(recording: &[u8], at: usize) -> Answer
 
 // What is found where no whole entry is left, after n that agree. Bytes behind the whole entries are one cut short, which is not replayed.
 fn at_end(recording: &[u8], n: u64) -> Found
-    ensures { result ≡ ended (cutShort recording.now) n }
+    ensures { result ≡ ended (cut_short recording.now) n }
 {
     if recording.len() % ENTRY_BYTES != 0 {
         return Found::CutShort(n);
@@ -50,7 +50,7 @@ fn replay_on(
     recording: &[u8],
 ) -> Found
     requires { Sized edition × Ready (tables edition header wallets escrows receipts journal) }
-    ensures { let L = lent edition header wallets escrows receipts journal in gone result L.exit ≡ replayOn submit L.entry recording.now }
+    ensures { let L = lent edition header wallets escrows receipts journal in gone result L.exit ≡ replay_on submit L.entry recording.now }
 {
     let entries = recording.len() / ENTRY_BYTES;
     let mut k: usize = 0;
@@ -108,7 +108,7 @@ pub fn replay(
     journal: &mut [u64],
     recording: &[u8],
 ) -> Found
-    ensures { let L = lent first-edition header wallets escrows receipts journal in gone result L.exit ≡ replay submit L.entry recording.now }
+    ensures { let L = lent first_edition header wallets escrows receipts journal in gone result L.exit ≡ replay submit L.entry recording.now }
 {
     replay_afresh(
         FIRST, header, wallets, escrows, receipts, journal, recording,
@@ -117,7 +117,7 @@ pub fn replay(
 
 // What a replay found, in numbers: an enum does not cross `extern "C"`.
 pub fn verdict(found: Found) -> Verdict
-    ensures { result ≡ verdictOf found }
+    ensures { result ≡ verdict_of found }
 {
     let none = Answer { number: 0, word: 0 };
     match found {

@@ -2,54 +2,54 @@
 -- so the demands of every call and of every run, and that what a run recorded agrees.
 use mathlib.Core.Path.{refl}
 use lib.ListN.{get_or}
-use Rattle.rules.specs.Ledger.{first-edition}
-use Rattle.rules.specs.Limits.{TOLD-NUMBER, TOLD-ENTRIES}
-use Rattle.rules.specs.Report.{reportOf}
-use Rattle.rules.specs.Results.{Ran, exits, Result, by-report, Meets}
-use Rattle.rules.specs.Runs.{Surface, Calls-are-listed, Calls-decide, Runs-add-up, Runs-refuse-retries, Retries-change-nothing, Runs-recordings-agree}
-use Rattle.rules.proofs.Runs.{calls-are-listed, calls-decide, runs-add-up, runs-refuse-retries, retries-change-nothing}
-use Rattle.rules.proofs.Recorded.{runs-recordings-agree}
+use Rattle.rules.specs.Ledger.{first_edition}
+use Rattle.rules.specs.Limits.{TOLD_NUMBER, TOLD_ENTRIES}
+use Rattle.rules.specs.Report.{report_of}
+use Rattle.rules.specs.Results.{Ran, exits, Result, by_report, Meets}
+use Rattle.rules.specs.Runs.{Surface, CallsAreListed, CallsDecide, RunsAddUp, RunsRefuseRetries, RetriesChangeNothing, RunsRecordingsAgree}
+use Rattle.rules.proofs.Runs.{calls_are_listed, calls_decide, runs_add_up, runs_refuse_retries, retries_change_nothing}
+use Rattle.rules.proofs.Recorded.{runs_recordings_agree}
 use Rattle.ledger.proofs.Surface.{five}
-use Rattle.replay.proofs.Surface as of-replay
-use Rattle.report.proofs.report.Kinds as report-kinds
-use Rattle.report.proofs.report.Reads as report-reads
+use Rattle.replay.proofs.Surface as of_replay
+use Rattle.report.proofs.report.Kinds as report_kinds
+use Rattle.report.proofs.report.Reads as report_reads
 
 pub data Did : Type 0 where
-  did-replay : of-replay.Did → Did
-  did-report : Ran report-kinds.ps report-kinds.r report-reads.Learnt → Did
+  did_replay : of_replay.Did → Did
+  did_report : Ran report_kinds.ps report_kinds.r report_reads.Learnt → Did
 
 -- of a report: the tables, the recording, the report so far, and what it then is and told
 abbrev pub shows : Did → Result
-shows (did-replay d) = of-replay.shows d
-shows (did-report x) =
+shows (did_replay d) = of_replay.shows d
+shows (did_report x) =
     let lent = x.args.1.1.1.1.1 in
     let left = (exits x).1.1.1.1.1 in
-    by-report (five x.args) (five (exits x)) lent.0.now
-    (reportOf lent.1.0 lent.1.1.0.now lent.1.1.1.0.now)
-    (reportOf x.answer left.1.1.0.now left.1.1.1.0.now)
-    (get_or left.1.1.1.1.0.now TOLD-NUMBER 0) (get_or left.1.1.1.1.0.now TOLD-ENTRIES 0)
+    by_report (five x.args) (five (exits x)) lent.0.now
+    (report_of lent.1.0 lent.1.1.0.now lent.1.1.1.0.now)
+    (report_of x.answer left.1.1.0.now left.1.1.1.0.now)
+    (get_or left.1.1.1.1.0.now TOLD_NUMBER 0) (get_or left.1.1.1.1.0.now TOLD_ENTRIES 0)
 
-pub meets : (d : Did) → Meets first-edition (shows d)
-meets (did-replay d) = of-replay.meets d
-meets (did-report x) = (refl, x.meets)
+pub meets : (d : Did) → Meets first_edition (shows d)
+meets (did_replay d) = of_replay.meets d
+meets (did_report x) = (refl, x.meets)
 
 abbrev pub surface : Surface
-surface = record { Did = Did; edition = first-edition; sized = (of-replay.surface).sized; shows = shows; meets = meets }
+surface = record { Did = Did; edition = first_edition; sized = (of_replay.surface).sized; shows = shows; meets = meets }
 
-pub demand-1 : Calls-are-listed surface
-demand-1 = calls-are-listed surface
+pub demand_1 : CallsAreListed surface
+demand_1 = calls_are_listed surface
 
-pub demand-2 : Calls-decide surface
-demand-2 = calls-decide surface
+pub demand_2 : CallsDecide surface
+demand_2 = calls_decide surface
 
-pub demand-3 : Runs-add-up surface
-demand-3 = runs-add-up surface
+pub demand_3 : RunsAddUp surface
+demand_3 = runs_add_up surface
 
-pub the-retry : Runs-refuse-retries surface
-the-retry = runs-refuse-retries surface
+pub the_retry : RunsRefuseRetries surface
+the_retry = runs_refuse_retries surface
 
-pub the-retry-changes-nothing : Retries-change-nothing surface
-the-retry-changes-nothing = retries-change-nothing surface
+pub the_retry_changes_nothing : RetriesChangeNothing surface
+the_retry_changes_nothing = retries_change_nothing surface
 
-pub recordings-agree : Runs-recordings-agree surface
-recordings-agree = runs-recordings-agree surface
+pub recordings_agree : RunsRecordingsAgree surface
+recordings_agree = runs_recordings_agree surface

@@ -2,10 +2,10 @@
 #![tactic(auto)]
 
 ghost use Rattle.std.specs.Prelude.{◌≡◌, cond, ◌*◌, ◌<◌, ◌≤◌, ◌^◌, length, get_or};
-ghost use Rattle.rules.specs.Limits.{WALLET-LEN};
-ghost use Rattle.rules.specs.Table.{word, put, putRow, tableRight};
+ghost use Rattle.rules.specs.Limits.{WALLET_LEN};
+ghost use Rattle.rules.specs.Table.{word, put, put_row, table_right};
 ghost use Rattle.rules.specs.Ledger.{row_of};
-ghost use Rattle.rules.specs.Lookup.{countRight, rowPlace, part_at};
+ghost use Rattle.rules.specs.Lookup.{count_right, row_place, part_at};
 ghost use Rattle.rows.specs.Part.{placed};
 
 use rules::limits::{ID, WALLET_LEN};
@@ -41,7 +41,7 @@ pub fn set(t: &mut [u64], len: usize, row: usize, k: usize, v: u64)
 // The words vs as a row; nothing past the end.
 pub fn put_row(t: &mut [u64], len: usize, row: usize, vs: &[u64])
     requires { (row < 2 ^ 32) × (len < 2 ^ 16) × (length vs.now < 2 ^ 16) }
-    ensures { t.new ≡ putRow t.old len row vs.now }
+    ensures { t.new ≡ put_row t.old len row vs.now }
 {
     let mut k = 0;
     while k < vs.len() {
@@ -59,7 +59,7 @@ pub fn choose(b: bool, n: u64, rest: u64) -> u64
 
 // The first of n wallet rows that has the id; n where there is none. The search stops at its row.
 pub fn find_row(t: &[u64], n: usize, id: u64) -> usize
-    requires { n * WALLET-LEN ≤ length t.now }
+    requires { n * WALLET_LEN ≤ length t.now }
     ensures { result ≡ row_of t.now n id }
 {
     let mut i = 0;
@@ -77,7 +77,7 @@ pub fn find_row(t: &[u64], n: usize, id: u64) -> usize
 // Whether a table has at least one row, a whole number of rows, and at most `most`.
 pub fn table_right(t: &[u64], len: usize, most: usize) -> bool
     requires { 0 < len }
-    ensures { result ≡ tableRight len most t.now }
+    ensures { result ≡ table_right len most t.now }
 {
     (len <= t.len()) & ((t.len() % len == 0) & (t.len() / len <= most))
 }
@@ -92,7 +92,7 @@ pub fn count_right(
     most: usize,
 ) -> bool
     requires { 0 < len }
-    ensures { result ≡ countRight header_len c len most header.now t.now }
+    ensures { result ≡ count_right header_len c len most header.now t.now }
 {
     let right = table_right(t, len, most);
     (header.len() == header_len) & (right & (at(header, c) <= (t.len() / len) as u64))
@@ -109,7 +109,7 @@ pub fn row_place(
     number: u64,
 ) -> usize
     requires { 0 < len }
-    ensures { result ≡ rowPlace header_len c len most header.now t.now number }
+    ensures { result ≡ row_place header_len c len most header.now t.now number }
 {
     let right = count_right(header, t, header_len, c, len, most);
     let count = at(header, c);

@@ -5,18 +5,18 @@ use mathlib.Core.List.{List, [], ◌∷◌}
 use mathlib.Core.Bool.{true}
 use Prim.Native.Nat.{ℕ}
 use Rattle.rules.specs.Table.{sum, every, some, seek, loop}
-use Rattle.rules.specs.Ledger.{row_of, putHead, putWallet, putEscrow, putReceipt, newWallet, newEscrow, newReceipt, newEntry, lengthsRight, fresh}
-use Rattle.rules.specs.Wallets.{openTo}
-use Rattle.rules.specs.Record.{usesOf, wellFormedBy, decode, encode, acceptedBy, read_by}
-use Rattle.rules.specs.Sound.{heldIn, credits, sound}
-use Rattle.rules.specs.Refusals.{seenIn, seen, countedOf, counted, entryRefusals, envelopeRefusals, operationRefusalsBy, refusalsBy}
-use Rattle.rules.specs.Settle.{raise, lower, ensureWallet, endEscrow, closeReceipt, acceptRow, closeDueReceipt, closeDueEscrow, sweepReceipt, sweepEscrow, sweptReceipts, swept, reply}
-use Rattle.rules.specs.Settle.{grant, transfer, openEscrow, release, refund, claim, accept, dispute, sweep, freeze, caps, close, operateBy, enter, settleBy}
-use Rattle.rules.specs.Submit.{answerBy, submitReadBy, submitBy}
-use Rattle.rules.specs.Recording.{entry_at, entriesFrom}
-use Rattle.rules.specs.Replay.{through, compared, ended, replayOn, replay}
-use Rattle.rules.specs.Report.{ended_as, addsOf, tallied, passing, stopped, reported, reportOn, report}
-use Rattle.rules.specs.Convert.{oldOperation, convertedAt, converted}
+use Rattle.rules.specs.Ledger.{row_of, put_head, put_wallet, put_escrow, put_receipt, new_wallet, new_escrow, new_receipt, new_entry, lengths_right, fresh}
+use Rattle.rules.specs.Wallets.{open_to}
+use Rattle.rules.specs.Record.{uses_of, well_formed_by, decode, encode, accepted_by, read_by}
+use Rattle.rules.specs.Sound.{held_in, credits, sound}
+use Rattle.rules.specs.Refusals.{seen_in, seen, counted_of, counted, entry_refusals, envelope_refusals, operation_refusals_by, refusals_by}
+use Rattle.rules.specs.Settle.{raise, lower, ensure_wallet, end_escrow, close_receipt, accept_row, close_due_receipt, close_due_escrow, sweep_receipt, sweep_escrow, swept_receipts, swept, reply}
+use Rattle.rules.specs.Settle.{grant, transfer, open_escrow, release, refund, claim, accept, dispute, sweep, freeze, caps, close, operate_by, enter, settle_by}
+use Rattle.rules.specs.Submit.{answer_by, submit_read_by, submit_by}
+use Rattle.rules.specs.Recording.{entry_at, entries_from}
+use Rattle.rules.specs.Replay.{through, compared, ended, replay_on, replay}
+use Rattle.rules.specs.Report.{ended_as, adds_of, tallied, passing, stopped, reported, report_on, report}
+use Rattle.rules.specs.Convert.{old_operation, converted_at, converted}
 use Rattle.rules.specs.Trials.{Trial, Case, holds, failing}
 use Rattle.rules.specs.Cases.{cases}
 
@@ -28,12 +28,12 @@ Each [] = Unit {0}
 Each (c ∷ cs) = Goes c.label c.trial × Each cs
 
 each_goes : Each cases
-unfolding sum every some seek loop row_of putHead putWallet putEscrow putReceipt newWallet newEscrow newReceipt newEntry lengthsRight fresh openTo usesOf wellFormedBy decode encode acceptedBy read_by heldIn credits sound seenIn seen countedOf counted entryRefusals envelopeRefusals operationRefusalsBy refusalsBy raise lower ensureWallet endEscrow closeReceipt acceptRow closeDueReceipt closeDueEscrow sweepReceipt sweepEscrow sweptReceipts swept grant transfer openEscrow release refund claim accept dispute reply sweep freeze caps close operateBy enter settleBy answerBy submitReadBy submitBy entry_at entriesFrom through compared ended replayOn replay ended_as addsOf tallied passing stopped reported reportOn report oldOperation convertedAt converted
+unfolding sum every some seek loop row_of put_head put_wallet put_escrow put_receipt new_wallet new_escrow new_receipt new_entry lengths_right fresh open_to uses_of well_formed_by decode encode accepted_by read_by held_in credits sound seen_in seen counted_of counted entry_refusals envelope_refusals operation_refusals_by refusals_by raise lower ensure_wallet end_escrow close_receipt accept_row close_due_receipt close_due_escrow sweep_receipt sweep_escrow swept_receipts swept grant transfer open_escrow release refund claim accept dispute reply sweep freeze caps close operate_by enter settle_by answer_by submit_read_by submit_by entry_at entries_from through compared ended replay_on replay ended_as adds_of tallied passing stopped reported report_on report old_operation converted_at converted
 each_goes = (refl, (refl, (refl, (refl, (refl, (refl, (refl, (refl, (refl, (refl, (refl, (refl, (refl, (refl, (refl, (refl, (refl, (refl, (refl, (refl, (refl, (refl, (refl, (refl, (refl, (refl, (refl, (refl, (refl, (refl, (refl, (refl, (refl, (refl, (refl, (refl, (refl, (refl, (refl, (refl, (refl, (refl, (refl, (refl, (refl, (refl, (refl, (refl, (refl, (refl, (refl, (refl, (refl, (refl, (refl, (refl, (refl, (refl, (refl, (refl, (refl, (refl, (refl, (refl, (refl, (refl, (refl, (refl, tt))))))))))))))))))))))))))))))))))))))))))))))))))))))))))))))))))))
 
-none-fails : (cs : List Case) → Each cs → failing cs ≡ []
-none-fails [] e = refl
-none-fails (c ∷ cs) (e, es) = rw (e, none-fails cs es)
+none_fails : (cs : List Case) → Each cs → failing cs ≡ []
+none_fails [] e = refl
+none_fails (c ∷ cs) (e, es) = rw (e, none_fails cs es)
 
-pub cases-go : failing cases ≡ []
-cases-go = none-fails cases each_goes
+pub cases_go : failing cases ≡ []
+cases_go = none_fails cases each_goes

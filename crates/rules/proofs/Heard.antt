@@ -7,14 +7,14 @@ use mathlib.Core.List.{List, [], ◌∷◌, ◌++◌, append_assoc}
 use mathlib.Core.Bool.{true}
 use Prim.Native.Nat.{ℕ, suc, ◌≤◌}
 use native.Mathlib.Omega.{arith}
-use Rattle.rules.specs.Limits.{HEADER-LEN, SWEEP}
+use Rattle.rules.specs.Limits.{HEADER_LEN, SWEEP}
 use Rattle.rules.specs.Ledger.{Edition, Ledger, fresh}
 use Rattle.rules.specs.Submit.{submit}
-use Rattle.rules.specs.Recording.{Entry, asEntry}
-use Rattle.rules.specs.History.{Call, starts-afresh, submits, reads, writes, asks-status, finds-wallet, finds-escrow, finds-receipt, Event, Said, said_of, submitted, begun, leaves, says, after, said, unbroken}
+use Rattle.rules.specs.Recording.{Entry, as_entry}
+use Rattle.rules.specs.History.{Call, starts_afresh, submits, reads, writes, asks_status, finds_wallet, finds_escrow, finds_receipt, Event, Said, said_of, submitted, begun, leaves, says, after, said, unbroken}
 use Rattle.rules.specs.Promises.{started, Refused}
-use Rattle.rules.proofs.Lengths.{lengths-stay}
-use Rattle.rules.proofs.ReplayGuard.{replay-guard}
+use Rattle.rules.proofs.Lengths.{lengths_stay}
+use Rattle.rules.proofs.ReplayGuard.{replay_guard}
 
 -- ---- calls, and then more calls
 
@@ -28,28 +28,28 @@ said_more L (x ∷ xs) ys =
     ap (λ (l : List Event). says L x ++ l) (said_more (leaves L x) xs ys) ∙ sym (append_assoc (says L x) (said (leaves L x) xs) (said (after L (x ∷ xs)) ys))
 
 -- what is submitted in calls, with the answers of the definitions
-abbrev pub answeredOn : Ledger → List Call → List Entry
-answeredOn L [] = []
-answeredOn L (starts-afresh ∷ cs) = answeredOn (started L) cs
-answeredOn L (submits b ∷ cs) = asEntry b (submit L b).number (submit L b).word ∷ answeredOn (submit L b).left cs
-answeredOn L (reads b ∷ cs) = answeredOn L cs
-answeredOn L (writes s out ∷ cs) = answeredOn L cs
-answeredOn L (asks-status n ∷ cs) = answeredOn L cs
-answeredOn L (finds-wallet id ∷ cs) = answeredOn L cs
-answeredOn L (finds-escrow k ∷ cs) = answeredOn L cs
-answeredOn L (finds-receipt k ∷ cs) = answeredOn L cs
+abbrev pub answered_on : Ledger → List Call → List Entry
+answered_on L [] = []
+answered_on L (starts_afresh ∷ cs) = answered_on (started L) cs
+answered_on L (submits b ∷ cs) = as_entry b (submit L b).number (submit L b).word ∷ answered_on (submit L b).left cs
+answered_on L (reads b ∷ cs) = answered_on L cs
+answered_on L (writes s out ∷ cs) = answered_on L cs
+answered_on L (asks_status n ∷ cs) = answered_on L cs
+answered_on L (finds_wallet id ∷ cs) = answered_on L cs
+answered_on L (finds_escrow k ∷ cs) = answered_on L cs
+answered_on L (finds_receipt k ∷ cs) = answered_on L cs
 
-pub answered-more : (L : Ledger) (xs ys : List Call) → answeredOn L (xs ++ ys) ≡ answeredOn L xs ++ answeredOn (after L xs) ys
-answered-more L [] ys = refl
-answered-more L (starts-afresh ∷ xs) ys = answered-more (started L) xs ys
-answered-more L (submits b ∷ xs) ys =
-    ap (λ (l : List Entry). asEntry b (submit L b).number (submit L b).word ∷ l) (answered-more (submit L b).left xs ys)
-answered-more L (reads b ∷ xs) ys = answered-more L xs ys
-answered-more L (writes s out ∷ xs) ys = answered-more L xs ys
-answered-more L (asks-status n ∷ xs) ys = answered-more L xs ys
-answered-more L (finds-wallet id ∷ xs) ys = answered-more L xs ys
-answered-more L (finds-escrow k ∷ xs) ys = answered-more L xs ys
-answered-more L (finds-receipt k ∷ xs) ys = answered-more L xs ys
+pub answered_more : (L : Ledger) (xs ys : List Call) → answered_on L (xs ++ ys) ≡ answered_on L xs ++ answered_on (after L xs) ys
+answered_more L [] ys = refl
+answered_more L (starts_afresh ∷ xs) ys = answered_more (started L) xs ys
+answered_more L (submits b ∷ xs) ys =
+    ap (λ (l : List Entry). as_entry b (submit L b).number (submit L b).word ∷ l) (answered_more (submit L b).left xs ys)
+answered_more L (reads b ∷ xs) ys = answered_more L xs ys
+answered_more L (writes s out ∷ xs) ys = answered_more L xs ys
+answered_more L (asks_status n ∷ xs) ys = answered_more L xs ys
+answered_more L (finds_wallet id ∷ xs) ys = answered_more L xs ys
+answered_more L (finds_escrow k ∷ xs) ys = answered_more L xs ys
+answered_more L (finds_receipt k ∷ xs) ys = answered_more L xs ys
 
 -- ---- the first event, and the rest
 
@@ -68,18 +68,18 @@ first_said d [] = d
 first_said d (begun n ∷ es) = d
 first_said d (submitted e ∷ es) = e
 
-abbrev behind-first : List Event → List Event
-behind-first [] = []
-behind-first (e ∷ es) = es
+abbrev behind_first : List Event → List Event
+behind_first [] = []
+behind_first (e ∷ es) = es
 
 -- something is heard
 abbrev none : List Event → ℕ
 none [] = 1
 none (e ∷ es) = 0
 
-pub some-heard : {es : List Event} (before : List Event) (e : Event) (behind : List Event) → es ≡ before ++ (e ∷ behind) → es ≢ []
-some-heard [] e behind x n = omega (arith, ap none (sym x ∙ n))
-some-heard (d ∷ before) e behind x n = omega (arith, ap none (sym x ∙ n))
+pub some_heard : {es : List Event} (before : List Event) (e : Event) (behind : List Event) → es ≡ before ++ (e ∷ behind) → es ≢ []
+some_heard [] e behind x n = omega (arith, ap none (sym x ∙ n))
+some_heard (d ∷ before) e behind x n = omega (arith, ap none (sym x ∙ n))
 
 -- ---- a submission that is heard
 
@@ -88,9 +88,9 @@ pub record Splits (L : Ledger) (before : List Event) (e : Said) (behind : List E
   pub first : List Call
   pub bytes : List ℕ
   pub rest : List Call
-  pub heard-first : said L first ≡ before
+  pub heard_first : said L first ≡ before
   pub says_so : said_of bytes (submit (after L first) bytes) ≡ e
-  pub heard-rest : said (submit (after L first) bytes).left rest ≡ behind
+  pub heard_rest : said (submit (after L first) bytes).left rest ≡ behind
 
 -- a call before it
 onward : (L : Ledger) (c : Call) {before all : List Event} {e : Said} {behind : List Event} → says L c ++ before ≡ all
@@ -99,9 +99,9 @@ onward L c h s = record {
   first = c ∷ s.first;
   bytes = s.bytes;
   rest = s.rest;
-  heard-first = ap (λ (l : List Event). says L c ++ l) s.heard-first ∙ h;
+  heard_first = ap (λ (l : List Event). says L c ++ l) s.heard_first ∙ h;
   says_so = s.says_so;
-  heard-rest = s.heard-rest;
+  heard_rest = s.heard_rest;
 }
 
 pub splits : (L : Ledger) (cs : List Call) (before : List Event) (e : Said) (behind : List Event) → said L cs ≡ before ++ (submitted e ∷ behind)
@@ -109,32 +109,32 @@ pub splits : (L : Ledger) (cs : List Call) (before : List Event) (e : Said) (beh
 splits L [] [] e behind x = absurd (omega (arith, ap opening x))
 splits L [] (submitted d ∷ before) e behind x = absurd (omega (arith, ap opening x))
 splits L [] (begun n ∷ before) e behind x = absurd (omega (arith, ap opening x))
-splits L (starts-afresh ∷ cs) [] e behind x = absurd (omega (arith, ap opening x))
-splits L (starts-afresh ∷ cs) (d ∷ before) e behind x =
-    onward L starts-afresh (ap (λ (f : Event). f ∷ before) (ap (first_of d) x)) (splits (started L) cs before e behind (ap behind-first x))
+splits L (starts_afresh ∷ cs) [] e behind x = absurd (omega (arith, ap opening x))
+splits L (starts_afresh ∷ cs) (d ∷ before) e behind x =
+    onward L starts_afresh (ap (λ (f : Event). f ∷ before) (ap (first_of d) x)) (splits (started L) cs before e behind (ap behind_first x))
 splits L (submits b ∷ cs) [] e behind x = record {
   first = [];
   bytes = b;
   rest = cs;
-  heard-first = refl;
+  heard_first = refl;
   says_so = ap (first_said e) x;
-  heard-rest = ap behind-first x;
+  heard_rest = ap behind_first x;
 }
 splits L (submits b ∷ cs) (d ∷ before) e behind x =
-    onward L (submits b) (ap (λ (f : Event). f ∷ before) (ap (first_of d) x)) (splits (submit L b).left cs before e behind (ap behind-first x))
+    onward L (submits b) (ap (λ (f : Event). f ∷ before) (ap (first_of d) x)) (splits (submit L b).left cs before e behind (ap behind_first x))
 splits L (reads b ∷ cs) before e behind x = onward L (reads b) refl (splits L cs before e behind x)
 splits L (writes s out ∷ cs) before e behind x = onward L (writes s out) refl (splits L cs before e behind x)
-splits L (asks-status n ∷ cs) before e behind x = onward L (asks-status n) refl (splits L cs before e behind x)
-splits L (finds-wallet id ∷ cs) before e behind x = onward L (finds-wallet id) refl (splits L cs before e behind x)
-splits L (finds-escrow k ∷ cs) before e behind x = onward L (finds-escrow k) refl (splits L cs before e behind x)
-splits L (finds-receipt k ∷ cs) before e behind x = onward L (finds-receipt k) refl (splits L cs before e behind x)
+splits L (asks_status n ∷ cs) before e behind x = onward L (asks_status n) refl (splits L cs before e behind x)
+splits L (finds_wallet id ∷ cs) before e behind x = onward L (finds_wallet id) refl (splits L cs before e behind x)
+splits L (finds_escrow k ∷ cs) before e behind x = onward L (finds_escrow k) refl (splits L cs before e behind x)
+splits L (finds_receipt k ∷ cs) before e behind x = onward L (finds_receipt k) refl (splits L cs before e behind x)
 
 -- THE RETRY, as it is heard
-pub retry-heard : (L : Ledger) → HEADER-LEN ≤ L.edition.header → (cs : List Call) (before between behind : List Event) (e f : Said)
+pub retry_heard : (L : Ledger) → HEADER_LEN ≤ L.edition.header → (cs : List Call) (before between behind : List Event) (e f : Said)
     → said L cs ≡ before ++ (submitted e ∷ (between ++ (submitted f ∷ behind))) → unbroken between ≡ true → e.number ≡ 0
     → e.submission.op ≢ SWEEP → f.submission.signer ≡ e.submission.signer → f.submission.nonce ≡ e.submission.nonce
     → (f.number ≢ 0) × (f.word ≡ 0)
-retry-heard L h cs before between behind e f x whole zero no-sweep same-signer same-nonce = (
+retry_heard L h cs before between behind e f x whole zero no_sweep same_signer same_nonce = (
   (λ z. refused.number (ap (λ (s : Said). s.number) again.says_so ∙ z)),
   sym (ap (λ (s : Said). s.word) again.says_so) ∙ refused.word,
 )
@@ -146,34 +146,34 @@ retry-heard L h cs before between behind e f x whole zero no-sweep same-signer s
     M = after L once.first
 
     again : Splits (submit M once.bytes).left between f behind
-    again = splits (submit M once.bytes).left once.rest between f behind once.heard-rest
+    again = splits (submit M once.bytes).left once.rest between f behind once.heard_rest
 
     refused : Refused (after (submit M once.bytes).left again.first) again.bytes
     refused =
-        replay-guard M (subst (λ (d : Edition). HEADER-LEN ≤ d.header) (sym (lengths-stay L h once.first).edition) h) once.bytes again.first
+        replay_guard M (subst (λ (d : Edition). HEADER_LEN ≤ d.header) (sym (lengths_stay L h once.first).edition) h) once.bytes again.first
         again.bytes (ap (λ (s : Said). s.number) once.says_so ∙ zero)
-        (λ s. no-sweep (sym (ap (λ (s : Said). s.submission.op) once.says_so) ∙ s)) (ap unbroken again.heard-first ∙ whole)
-        (ap (λ (s : Said). s.submission.signer) again.says_so ∙ same-signer ∙ sym (ap (λ (s : Said). s.submission.signer) once.says_so))
-        (ap (λ (s : Said). s.submission.nonce) again.says_so ∙ same-nonce ∙ sym (ap (λ (s : Said). s.submission.nonce) once.says_so))
+        (λ s. no_sweep (sym (ap (λ (s : Said). s.submission.op) once.says_so) ∙ s)) (ap unbroken again.heard_first ∙ whole)
+        (ap (λ (s : Said). s.submission.signer) again.says_so ∙ same_signer ∙ sym (ap (λ (s : Said). s.submission.signer) once.says_so))
+        (ap (λ (s : Said). s.submission.nonce) again.says_so ∙ same_nonce ∙ sym (ap (λ (s : Said). s.submission.nonce) once.says_so))
 
 -- ---- a start afresh that is heard first
 
 pub record Begins (L last : Ledger) (answers : List Entry) (heard : List Event) : Type 0 where
   pub number : (fresh L).number ≡ 0
   pub rest : List Call
-  pub after-rest : last ≡ after (started L) rest
-  pub heard-rest : said (started L) rest ≡ heard
-  pub answered-rest : answers ≡ answeredOn (started L) rest
+  pub after_rest : last ≡ after (started L) rest
+  pub heard_rest : said (started L) rest ≡ heard
+  pub answered_rest : answers ≡ answered_on (started L) rest
 
-pub begins : (L : Ledger) (cs : List Call) (heard : List Event) → said L cs ≡ (begun 0 ∷ heard) → Begins L (after L cs) (answeredOn L cs) heard
+pub begins : (L : Ledger) (cs : List Call) (heard : List Event) → said L cs ≡ (begun 0 ∷ heard) → Begins L (after L cs) (answered_on L cs) heard
 begins L [] heard x = absurd (omega (arith, ap opening x))
-begins L (starts-afresh ∷ cs) heard x =
+begins L (starts_afresh ∷ cs) heard x =
     let y : suc (suc (fresh L).number) ≡ 2 = ap opening x in
-    record { number = omega (arith, y); rest = cs; after-rest = refl; heard-rest = ap behind-first x; answered-rest = refl }
+    record { number = omega (arith, y); rest = cs; after_rest = refl; heard_rest = ap behind_first x; answered_rest = refl }
 begins L (submits b ∷ cs) heard x = absurd (omega (arith, ap opening x))
 begins L (reads b ∷ cs) heard x = begins L cs heard x
 begins L (writes s out ∷ cs) heard x = begins L cs heard x
-begins L (asks-status n ∷ cs) heard x = begins L cs heard x
-begins L (finds-wallet id ∷ cs) heard x = begins L cs heard x
-begins L (finds-escrow k ∷ cs) heard x = begins L cs heard x
-begins L (finds-receipt k ∷ cs) heard x = begins L cs heard x
+begins L (asks_status n ∷ cs) heard x = begins L cs heard x
+begins L (finds_wallet id ∷ cs) heard x = begins L cs heard x
+begins L (finds_escrow k ∷ cs) heard x = begins L cs heard x
+begins L (finds_receipt k ∷ cs) heard x = begins L cs heard x

@@ -9,20 +9,20 @@ use native.Mathlib.Omega.{arith}
 use lib.ListN.{length, length-append}
 use lib.Seq.{take_all, take-append-le, take-append-add, drop-append-le, drop-append-add}
 use Rattle.rules.specs.Submit.{submit}
-use Rattle.rules.specs.Recording.{entriesOf}
-use Rattle.rules.specs.Report.{Report, hasNamed, Line, Reported, report}
+use Rattle.rules.specs.Recording.{entries_of}
+use Rattle.rules.specs.Report.{Report, has_named, Line, Reported, report}
 use Rattle.rules.specs.Promises.{started}
-use Rattle.rules.specs.Month.{lines_of, Open, Stops, Says, Lending, month, linesIn, Says-month, Month-says}
-use Rattle.rules.proofs.Tallies.{lines-length, counts-none, counts-join, report-named, report-says, report-open}
+use Rattle.rules.specs.Month.{lines_of, Open, Stops, Says, Lending, month, lines_in, SaysMonth, MonthSays}
+use Rattle.rules.proofs.Tallies.{lines_length, counts_none, counts_join, report_named, report_says, report_open}
 
 -- ---- once a figure is named
 
-pub month-named : (ms : List Lending) (R : Report) → hasNamed R ≡ true → month R ms ≡ R
-month-named [] R named = refl
-month-named (m ∷ ms) R named = ap (λ (S : Report). month S ms) (report-named submit R m.tables m.recording named) ∙ month-named ms R named
+pub month_named : (ms : List Lending) (R : Report) → has_named R ≡ true → month R ms ≡ R
+month_named [] R named = refl
+month_named (m ∷ ms) R named = ap (λ (S : Report). month S ms) (report_named submit R m.tables m.recording named) ∙ month_named ms R named
 
-stops-more : {S : Report} {ls : List Line} (ms : List Line) → Stops S ls → Stops S (ls ++ ms)
-stops-more ms s = record {
+stops_more : {S : Report} {ls : List Line} (ms : List Line) → Stops S ls → Stops S (ls ++ ms)
+stops_more ms s = record {
   line = s.line;
   behind = s.behind ++ ms;
   next = ap (λ (l : List Line). l ++ ms) s.next;
@@ -36,47 +36,47 @@ module _ {R : Report} (m : Lending) (ms : List Lending) (x : Reported) (says : S
   abbrev lines : List Line
   lines = lines_of m.tables m.recording
 
-  entries-lines : length lines ≡ length (entriesOf m.recording)
-  entries-lines = lines-length (started m.tables) (entriesOf m.recording)
+  entries_lines : length lines ≡ length (entries_of m.recording)
+  entries_lines = lines_length (started m.tables) (entries_of m.recording)
 
-  ends-in : hasNamed x.report ≡ true → Says-month R (m ∷ ms) x.report
-  ends-in named =
-      let fits : x.entries ≤ length lines = omega (arith, entries-lines, says.within) in
+  ends_in : has_named x.report ≡ true → SaysMonth R (m ∷ ms) x.report
+  ends_in named =
+      let fits : x.entries ≤ length lines = omega (arith, entries_lines, says.within) in
       record {
         entries = x.entries;
-        within = omega (arith, length-append lines (linesIn ms));
-        counts = rw (take-append-le x.entries lines (linesIn ms) fits) says.counts;
+        within = omega (arith, length-append lines (lines_in ms));
+        counts = rw (take-append-le x.entries lines (lines_in ms) fits) says.counts;
         all = λ h. absurd (true≢false (sym named ∙ h));
-        stops = λ h. rw (drop-append-le x.entries lines (linesIn ms) fits) (stops-more (linesIn ms) (says.stops h));
+        stops = λ h. rw (drop-append-le x.entries lines (lines_in ms) fits) (stops_more (lines_in ms) (says.stops h));
       }
 
-  goes-behind : {S : Report} → hasNamed x.report ≡ false → Says-month x.report ms S → Says-month R (m ∷ ms) S
-  goes-behind unnamed rest =
-      let whole : length lines ≤ x.entries = omega (arith, entries-lines, says.all unnamed) in
+  goes_behind : {S : Report} → has_named x.report ≡ false → SaysMonth x.report ms S → SaysMonth R (m ∷ ms) S
+  goes_behind unnamed rest =
+      let whole : length lines ≤ x.entries = omega (arith, entries_lines, says.all unnamed) in
       record {
         entries = length lines + rest.entries;
-        within = omega (arith, length-append lines (linesIn ms), rest.within);
-        counts = rw (take-append-add lines (linesIn ms) rest.entries) (counts-join (rw (take_all x.entries lines whole) at says.counts) rest.counts);
-        all = λ h. omega (arith, length-append lines (linesIn ms), rest.all h);
-        stops = λ h. rw (drop-append-add lines (linesIn ms) rest.entries) (rest.stops h);
+        within = omega (arith, length-append lines (lines_in ms), rest.within);
+        counts = rw (take-append-add lines (lines_in ms) rest.entries) (counts_join (rw (take_all x.entries lines whole) at says.counts) rest.counts);
+        all = λ h. omega (arith, length-append lines (lines_in ms), rest.all h);
+        stops = λ h. rw (drop-append-add lines (lines_in ms) rest.entries) (rest.stops h);
       }
 
-pub month-says : Month-says
-month-says [] lent R o = record {
+pub month_says : MonthSays
+month_says [] lent R o = record {
   entries = 0;
   within = omega arith;
-  counts = counts-none R R.named;
+  counts = counts_none R R.named;
   all = λ h. refl;
   stops = λ h. absurd (true≢false (sym h ∙ o.unnamed));
 }
-month-says (m ∷ ms) lent R o = go (hasNamed x.report) refl (month-says ms lent.1 x.report)
+month_says (m ∷ ms) lent R o = go (has_named x.report) refl (month_says ms lent.1 x.report)
   where
     x : Reported
     x = report submit R m.tables m.recording
 
     says : Says R m.tables m.recording x
-    says = report-says m.tables lent.0 R o m.recording
+    says = report_says m.tables lent.0 R o m.recording
 
-    go : (b : Bool) → hasNamed x.report ≡ b → (Open x.report → Says-month x.report ms (month x.report ms)) → Says-month R (m ∷ ms) (month x.report ms)
-    go true named rest = rw (month-named ms x.report named) (ends-in m ms x says named)
-    go false unnamed rest = goes-behind m ms x says unnamed (rest (report-open m.tables lent.0 R o m.recording unnamed))
+    go : (b : Bool) → has_named x.report ≡ b → (Open x.report → SaysMonth x.report ms (month x.report ms)) → SaysMonth R (m ∷ ms) (month x.report ms)
+    go true named rest = rw (month_named ms x.report named) (ends_in m ms x says named)
+    go false unnamed rest = goes_behind m ms x says unnamed (rest (report_open m.tables lent.0 R o m.recording unnamed))

@@ -3,19 +3,19 @@
 use mathlib.Core.Path.{◌∙◌}
 use mathlib.Core.List.{List, []}
 use Prim.Native.Nat.{ℕ, ◌≤◌}
-use Rattle.rules.specs.Limits.{HEADER-LEN, ESCROW-LEN}
+use Rattle.rules.specs.Limits.{HEADER_LEN, ESCROW_LEN}
 use Rattle.rules.specs.Ledger.{Ledger}
 use Rattle.rules.specs.Sound.{Ready}
 use Rattle.rules.specs.Submit.{submit}
 use Rattle.rules.specs.Promises.{Lent, started}
-use Rattle.rules.proofs.Lengths.{lengths-submit, lengths-right, lent-started}
-use Rattle.rules.proofs.SoundAlways.{sound-settles, sound-always}
+use Rattle.rules.proofs.Lengths.{lengths_submit, lengths_right_lem, lent_started}
+use Rattle.rules.proofs.SoundAlways.{sound_settles, sound_always}
 
-pub ready-fresh : (L : Ledger) → Lent L → Ready (started L)
-ready-fresh L lent = record { lengths = (lent-started L lent).lengths; sound = sound-always L lent [] }
+pub ready_fresh : (L : Ledger) → Lent L → Ready (started L)
+ready_fresh L lent = record { lengths = (lent_started L lent).lengths; sound = sound_always L lent [] }
 
-pub ready-stays : (L : Ledger) → HEADER-LEN ≤ L.edition.header → ESCROW-LEN ≤ L.edition.escrow → Ready L → (b : List ℕ) → Ready (submit L b).left
-ready-stays L header escrow ready b = record {
-  lengths = lengths-right (lengths-submit L b) ∙ ready.lengths;
-  sound = sound-settles L (record { lengths = ready.lengths; header = header; escrow = escrow }) ready.sound b;
+pub ready_stays : (L : Ledger) → HEADER_LEN ≤ L.edition.header → ESCROW_LEN ≤ L.edition.escrow → Ready L → (b : List ℕ) → Ready (submit L b).left
+ready_stays L header escrow ready b = record {
+  lengths = lengths_right_lem (lengths_submit L b) ∙ ready.lengths;
+  sound = sound_settles L (record { lengths = ready.lengths; header = header; escrow = escrow }) ready.sound b;
 }

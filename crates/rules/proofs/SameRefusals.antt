@@ -5,98 +5,98 @@ use mathlib.Core.Bool.{Bool, not, ◌&&◌, ◌||◌}
 use Prim.Native.Nat.{ℕ, ◌+◌, ◌-◌, ◌≤◌, ◌<◌}
 use lib.Dec.{eqb, ltb, lit<}
 use borrow.Author.Tests.{ltb-true}
-use Rattle.rules.specs.Limits.{WALLET-LEN, RECEIPT-LEN}
-use Rattle.rules.specs.Limits.{BALANCE, LOCKED, FROZEN, IS-FROZEN, IS-CLOSED, TX-CAP, DAILY-CAP, FROM, TO, ESCROW-DEADLINE, ESCROW-STATE, REQUESTER, ACCEPTANCE-DEADLINE, RECEIPT-STATE, IS-OPEN, PENDING}
-use Rattle.rules.specs.Limits.{SIGNER, NONCE, OPERATION, ENTRY-AMOUNT, SETTLED-AT, ADMIN}
-use Rattle.rules.specs.Ledger.{Ledger, receipt, escrowCount, receiptCount, walletOf, written}
-use Rattle.rules.specs.Wallets.{isClosed, openTo}
-use Rattle.rules.specs.Refusals.{clear, seenIn, seen, countedOf, counted, sender, ofEscrow, ofReceipt, releasable, notEmpty}
-use Rattle.rules.specs.Refusals.{entryRefusals, envelopeRefusals, operationRefusalsBy, operationRefusals, refusalsBy}
-use Rattle.rules.specs.Submit.{answerBy, answer_of}
-use Rattle.rules.specs.Same.{Same-written}
+use Rattle.rules.specs.Limits.{WALLET_LEN, RECEIPT_LEN}
+use Rattle.rules.specs.Limits.{BALANCE, LOCKED, FROZEN, IS_FROZEN, IS_CLOSED, TX_CAP, DAILY_CAP, FROM, TO, ESCROW_DEADLINE, ESCROW_STATE, REQUESTER, ACCEPTANCE_DEADLINE, RECEIPT_STATE, IS_OPEN, PENDING}
+use Rattle.rules.specs.Limits.{SIGNER, NONCE, OPERATION, ENTRY_AMOUNT, SETTLED_AT, ADMIN}
+use Rattle.rules.specs.Ledger.{Ledger, receipt, escrow_count, receipt_count, wallet_of, written}
+use Rattle.rules.specs.Wallets.{is_closed, open_to}
+use Rattle.rules.specs.Refusals.{clear, seen_in, seen, counted_of, counted, sender, of_escrow, of_receipt, releasable, not_empty}
+use Rattle.rules.specs.Refusals.{entry_refusals, envelope_refusals, operation_refusals_by, operation_refusals, refusals_by}
+use Rattle.rules.specs.Submit.{answer_by, answer_of}
+use Rattle.rules.specs.Same.{SameWritten}
 use Rattle.rules.specs.declared.Submission.{Submission}
 use Rattle.rules.specs.declared.Read.{Read}
-use Rattle.rules.proofs.Counts.{sum-ext, some-ext}
+use Rattle.rules.proofs.Counts.{sum_ext, some_ext}
 use Rattle.rules.proofs.Passed.{written_row}
-use Rattle.rules.proofs.Lengths.{lengths-right}
-use Rattle.rules.proofs.SameReads.{guarded, lengths-of, escrow-same, of-escrow-same, receipt-same, entry-same, has_same, of-same}
-use Rattle.rules.proofs.SameSound.{sound-same}
+use Rattle.rules.proofs.Lengths.{lengths_right_lem}
+use Rattle.rules.proofs.SameReads.{guarded, lengths_of, escrow_same, of_escrow_same, receipt_same, entry_same, has_same, of_same}
+use Rattle.rules.proofs.SameSound.{sound_same}
 
-module _ (K L : Ledger) (a : Same-written K L) (wide : 8 ≤ L.edition.escrow) where
+module _ (K L : Ledger) (a : SameWritten K L) (wide : 8 ≤ L.edition.escrow) where
   -- ---- the journal
 
   seen_same : (g n : ℕ) → seen K g n ≡ seen L g n
-  unfolding seen seenIn
-  seen_same g n = rw a.header (some-ext _ _ _ (λ i h. let w = entry-same K L a i h in rw (w SIGNER (lit< tt), w NONCE (lit< tt))))
+  unfolding seen seen_in
+  seen_same g n = rw a.header (some_ext _ _ _ (λ i h. let w = entry_same K L a i h in rw (w SIGNER (lit< tt), w NONCE (lit< tt))))
 
   counted_same : (g now : ℕ) → counted K g now ≡ counted L g now
-  unfolding counted countedOf
+  unfolding counted counted_of
   counted_same g now =
       rw a.header
-      (sum-ext _ _ _
-      (λ i h. let w = entry-same K L a i h in rw (w SIGNER (lit< tt), w OPERATION (lit< tt), w SETTLED-AT (lit< tt), w ENTRY-AMOUNT (lit< tt))))
+      (sum_ext _ _ _
+      (λ i h. let w = entry_same K L a i h in rw (w SIGNER (lit< tt), w OPERATION (lit< tt), w SETTLED_AT (lit< tt), w ENTRY_AMOUNT (lit< tt))))
 
   -- ---- conditions on a row that is there: the signer's wallet, an escrow, and a receipt
 
-  sender-same : (s : Submission) (f : ℕ → Bool) (k : ℕ) → k < WALLET-LEN → sender K s (f (walletOf K s.signer k)) ≡ sender L s (f (walletOf L s.signer k))
-  sender-same s f k k< = guarded _ _ _ _ (has_same K L a s.signer) (λ h. ap f (of-same K L a s.signer k (ltb-true _ _ h) k<))
+  sender_same : (s : Submission) (f : ℕ → Bool) (k : ℕ) → k < WALLET_LEN → sender K s (f (wallet_of K s.signer k)) ≡ sender L s (f (wallet_of L s.signer k))
+  sender_same s f k k< = guarded _ _ _ _ (has_same K L a s.signer) (λ h. ap f (of_same K L a s.signer k (ltb-true _ _ h) k<))
 
-  stale-same : (now n : ℕ) → ofEscrow K n (not (releasable K now (n - 1))) ≡ ofEscrow L n (not (releasable L now (n - 1)))
-  stale-same now n =
-      guarded (written (escrowCount K) n) (written (escrowCount L) n) _ _ (rw a.header)
-      (λ there. let w = escrow-same K L a wide (n - 1) (written_row (escrowCount L) n there) in rw (w ESCROW-STATE (lit< tt), w ESCROW-DEADLINE (lit< tt)))
+  stale_same : (now n : ℕ) → of_escrow K n (not (releasable K now (n - 1))) ≡ of_escrow L n (not (releasable L now (n - 1)))
+  stale_same now n =
+      guarded (written (escrow_count K) n) (written (escrow_count L) n) _ _ (rw a.header)
+      (λ there. let w = escrow_same K L a wide (n - 1) (written_row (escrow_count L) n there) in rw (w ESCROW_STATE (lit< tt), w ESCROW_DEADLINE (lit< tt)))
 
-  of-receipt-same : (n : ℕ) (f : ℕ → Bool) (k : ℕ) → k < RECEIPT-LEN → ofReceipt K n (f (receipt K (n - 1) k)) ≡ ofReceipt L n (f (receipt L (n - 1) k))
-  of-receipt-same n f k k< =
-      guarded (written (receiptCount K) n) (written (receiptCount L) n) _ _ (rw a.header)
-      (λ there. ap f (receipt-same K L a (n - 1) (written_row (receiptCount L) n there) k k<))
+  of_receipt_same : (n : ℕ) (f : ℕ → Bool) (k : ℕ) → k < RECEIPT_LEN → of_receipt K n (f (receipt K (n - 1) k)) ≡ of_receipt L n (f (receipt L (n - 1) k))
+  of_receipt_same n f k k< =
+      guarded (written (receipt_count K) n) (written (receipt_count L) n) _ _ (rw a.header)
+      (λ there. ap f (receipt_same K L a (n - 1) (written_row (receipt_count L) n there) k k<))
 
   -- ---- a wallet by its id: whether it is closed, and whether it is empty
 
-  closed_same : (id : ℕ) → isClosed K id ≡ isClosed L id
-  closed_same id = guarded _ _ _ _ (has_same K L a id) (λ h. ap (λ x. eqb x IS-CLOSED) (of-same K L a id FROZEN (ltb-true _ _ h) (lit< tt)))
+  closed_same : (id : ℕ) → is_closed K id ≡ is_closed L id
+  closed_same id = guarded _ _ _ _ (has_same K L a id) (λ h. ap (λ x. eqb x IS_CLOSED) (of_same K L a id FROZEN (ltb-true _ _ h) (lit< tt)))
 
-  open-to-same : (id : ℕ) → openTo K.edition.escrow K.escrows (escrowCount K) id ≡ openTo L.edition.escrow L.escrows (escrowCount L) id
-  unfolding openTo
-  open-to-same id =
+  open_to_same : (id : ℕ) → open_to K.edition.escrow K.escrows (escrow_count K) id ≡ open_to L.edition.escrow L.escrows (escrow_count L) id
+  unfolding open_to
+  open_to_same id =
       rw a.header
-      (some-ext _ _ _ (λ i h. let w = escrow-same K L a wide i h in ap₂ (λ x y. eqb x id && eqb y IS-OPEN) (w TO (lit< tt)) (w ESCROW-STATE (lit< tt))))
+      (some_ext _ _ _ (λ i h. let w = escrow_same K L a wide i h in ap₂ (λ x y. eqb x id && eqb y IS_OPEN) (w TO (lit< tt)) (w ESCROW_STATE (lit< tt))))
 
-  empty-same : (id : ℕ) → notEmpty K id ≡ notEmpty L id
-  empty-same id =
+  empty_same : (id : ℕ) → not_empty K id ≡ not_empty L id
+  empty_same id =
       guarded _ _ _ _ (has_same K L a id)
-      (λ h. rw (of-same K L a id BALANCE (ltb-true _ _ h) (lit< tt), of-same K L a id LOCKED (ltb-true _ _ h) (lit< tt), open-to-same id))
+      (λ h. rw (of_same K L a id BALANCE (ltb-true _ _ h) (lit< tt), of_same K L a id LOCKED (ltb-true _ _ h) (lit< tt), open_to_same id))
 
   -- ---- the table
 
-  entry-rows : (r : Read) → entryRefusals K r ≡ entryRefusals L r
-  unfolding entryRefusals
-  entry-rows r = rw (lengths-right (lengths-of K L a), sound-same K L a wide)
+  entry_rows : (r : Read) → entry_refusals K r ≡ entry_refusals L r
+  unfolding entry_refusals
+  entry_rows r = rw (lengths_right_lem (lengths_of K L a), sound_same K L a wide)
 
-  envelope-rows : (s : Submission) → envelopeRefusals K s ≡ envelopeRefusals L s
-  unfolding envelopeRefusals
-  envelope-rows s = rw (seen_same s.signer s.nonce, a.header)
+  envelope_rows : (s : Submission) → envelope_refusals K s ≡ envelope_refusals L s
+  unfolding envelope_refusals
+  envelope_rows s = rw (seen_same s.signer s.nonce, a.header)
 
-  operation-rows : (s : Submission) → operationRefusals K s ≡ operationRefusals L s
-  unfolding operationRefusalsBy
-  operation-rows s =
+  operation_rows : (s : Submission) → operation_refusals K s ≡ operation_refusals L s
+  unfolding operation_refusals_by
+  operation_rows s =
       rw (
         counted_same s.signer s.now,
-        sender-same s (λ x. eqb x IS-FROZEN) FROZEN (lit< tt),
-        sender-same s (λ x. ltb x s.amount) BALANCE (lit< tt),
-        sender-same s (λ x. ltb x s.amount) TX-CAP (lit< tt),
-        sender-same s (λ x. ltb x (s.amount + counted L s.signer s.now)) DAILY-CAP (lit< tt),
-        of-escrow-same K L a wide s.target (λ x y. not (eqb s.signer x) && clear s ADMIN) FROM FROM (lit< tt) (lit< tt),
-        stale-same s.now s.target,
-        stale-same s.now s.link,
-        of-escrow-same K L a wide s.link (λ x y. not (eqb x s.target) || not (eqb y s.signer)) FROM TO (lit< tt) (lit< tt),
-        of-escrow-same K L a wide s.link (λ x y. ltb x s.until) ESCROW-DEADLINE ESCROW-DEADLINE (lit< tt) (lit< tt),
-        of-receipt-same s.target (λ x. not (eqb s.signer x)) REQUESTER (lit< tt),
-        of-receipt-same s.target (λ x. not (eqb x PENDING)) RECEIPT-STATE (lit< tt),
-        of-receipt-same s.target (λ x. ltb x s.now) ACCEPTANCE-DEADLINE (lit< tt),
+        sender_same s (λ x. eqb x IS_FROZEN) FROZEN (lit< tt),
+        sender_same s (λ x. ltb x s.amount) BALANCE (lit< tt),
+        sender_same s (λ x. ltb x s.amount) TX_CAP (lit< tt),
+        sender_same s (λ x. ltb x (s.amount + counted L s.signer s.now)) DAILY_CAP (lit< tt),
+        of_escrow_same K L a wide s.target (λ x y. not (eqb s.signer x) && clear s ADMIN) FROM FROM (lit< tt) (lit< tt),
+        stale_same s.now s.target,
+        stale_same s.now s.link,
+        of_escrow_same K L a wide s.link (λ x y. not (eqb x s.target) || not (eqb y s.signer)) FROM TO (lit< tt) (lit< tt),
+        of_escrow_same K L a wide s.link (λ x y. ltb x s.until) ESCROW_DEADLINE ESCROW_DEADLINE (lit< tt) (lit< tt),
+        of_receipt_same s.target (λ x. not (eqb s.signer x)) REQUESTER (lit< tt),
+        of_receipt_same s.target (λ x. not (eqb x PENDING)) RECEIPT_STATE (lit< tt),
+        of_receipt_same s.target (λ x. ltb x s.now) ACCEPTANCE_DEADLINE (lit< tt),
         closed_same s.signer,
         closed_same s.target,
-        empty-same s.target,
+        empty_same s.target,
         has_same K L a s.signer,
         has_same K L a s.target,
         a.header,
@@ -107,6 +107,6 @@ module _ (K L : Ledger) (a : Same-written K L) (wide : 8 ≤ L.edition.escrow) w
         a.edition,
       )
 
-  pub answer-same : (r : Read) → answer_of K r ≡ answer_of L r
-  unfolding answerBy refusalsBy
-  answer-same r = rw (entry-rows r, envelope-rows r.submission, operation-rows r.submission)
+  pub answer_same : (r : Read) → answer_of K r ≡ answer_of L r
+  unfolding answer_by refusals_by
+  answer_same r = rw (entry_rows r, envelope_rows r.submission, operation_rows r.submission)

@@ -1,7 +1,7 @@
 -- Demand 3: calls on a ledger in the order made, what they leave, what was said; and the book that submissions and answers make of
 -- themselves, with no table read. Starting afresh begins the book again.
 use Rattle.std.specs.Prelude.{List, [], ◌∷◌, ◌++◌, Bool, true, false, cond, not, ◌&&◌, ℕ, ◌+◌, ◌-◌, get_or, eqb, ltb, leb}
-use Rattle.rules.specs.Limits.{AUTO-OR-FREEZE, ACCEPTS}
+use Rattle.rules.specs.Limits.{AUTO_OR_FREEZE, ACCEPTS}
 use Rattle.rules.specs.Table.{loop}
 use Rattle.rules.specs.Ledger.{Ledger, Outcome, fresh}
 use Rattle.rules.specs.Record.{read_of, bit}
@@ -11,14 +11,14 @@ use Rattle.rules.specs.declared.Submission.{Submission}
 
 -- a public call
 pub data Call : Type 0 where
-  starts-afresh : Call
+  starts_afresh : Call
   submits : List ℕ → Call
   reads : List ℕ → Call
   writes : Submission → List ℕ → Call
-  asks-status : ℕ → Call
-  finds-wallet : ℕ → Call
-  finds-escrow : ℕ → Call
-  finds-receipt : ℕ → Call
+  asks_status : ℕ → Call
+  finds_wallet : ℕ → Call
+  finds_escrow : ℕ → Call
+  finds_receipt : ℕ → Call
 
 -- what was submitted, as it is read, and what was answered
 pub record Said : Type 0 where
@@ -36,24 +36,24 @@ pub data Event : Type 0 where
 
 -- one call: the ledger that it leaves, and what was said; a read, a write, a status and a lookup change and say nothing
 abbrev pub leaves : Ledger → Call → Ledger
-leaves L starts-afresh = (fresh L).left
+leaves L starts_afresh = (fresh L).left
 leaves L (submits b) = (submit L b).left
 leaves L (reads b) = L
 leaves L (writes s out) = L
-leaves L (asks-status n) = L
-leaves L (finds-wallet id) = L
-leaves L (finds-escrow k) = L
-leaves L (finds-receipt k) = L
+leaves L (asks_status n) = L
+leaves L (finds_wallet id) = L
+leaves L (finds_escrow k) = L
+leaves L (finds_receipt k) = L
 
 abbrev pub says : Ledger → Call → List Event
-says L starts-afresh = begun (fresh L).number ∷ []
+says L starts_afresh = begun (fresh L).number ∷ []
 says L (submits b) = submitted (said_of b (submit L b)) ∷ []
 says L (reads b) = []
 says L (writes s out) = []
-says L (asks-status n) = []
-says L (finds-wallet id) = []
-says L (finds-escrow k) = []
-says L (finds-receipt k) = []
+says L (asks_status n) = []
+says L (finds_wallet id) = []
+says L (finds_escrow k) = []
+says L (finds_receipt k) = []
 
 -- a list of calls in the order made
 abbrev pub after : Ledger → List Call → Ledger
@@ -163,19 +163,19 @@ pub record Sweeping : Type 0 where
   pub room : ℕ
   pub book : Book
 
-unfoldable pub sweepNote : ℕ → ℕ → Sweeping → Sweeping
-sweepNote now i s =
+unfoldable pub sweep_note : ℕ → ℕ → Sweeping → Sweeping
+sweep_note now i s =
     let B = s.book in
     cond (ltb 0 s.room && (B.pending i && ltb (B.note i).until now))
     (record { room = s.room - 1; book = cond (eqb (B.note i).auto 1) (tries (B.note i).link now i B) (closes i B) }) s
 
-unfoldable pub sweepDeal : ℕ → ℕ → Sweeping → Sweeping
-sweepDeal now i s =
+unfoldable pub sweep_deal : ℕ → ℕ → Sweeping → Sweeping
+sweep_deal now i s =
     let B = s.book in
     cond (ltb 0 s.room && (B.live i && ltb (B.deal i).until now)) (record { room = s.room - 1; book = ends false i B }) s
 
 unfoldable pub sweeps : ℕ → ℕ → Book → Book
-sweeps now limit B = (loop B.opens (sweepDeal now) (loop B.claims (sweepNote now) (record { room = limit; book = B }))).book
+sweeps now limit B = (loop B.opens (sweep_deal now) (loop B.claims (sweep_note now) (record { room = limit; book = B }))).book
 
 -- what a settled submission says, by its operation
 unfoldable pub grants : Said → Book → Book
@@ -209,8 +209,8 @@ transfers e B = record {
 }
 
 -- an open's word names its escrow
-unfoldable pub opens-escrow : Said → Book → Book
-opens-escrow e B = record {
+unfoldable pub opens_escrow : Said → Book → Book
+opens_escrow e B = record {
   opens = B.opens + 1;
   live = at (e.word - 1) true B.live;
   deal =
@@ -235,15 +235,15 @@ unfoldable pub refunds : Said → Book → Book
 refunds e B = ends false (e.submission.target - 1) B
 
 -- a claim's word names its receipt
-unfoldable pub makes-claim : Said → Book → Book
-makes-claim e B = record {
+unfoldable pub makes_claim : Said → Book → Book
+makes_claim e B = record {
   opens = B.opens;
   deal = B.deal;
   live = B.live;
   claims = B.claims + 1;
   note =
       at (e.word - 1)
-      (record { link = e.submission.link; until = e.submission.until; auto = bit AUTO-OR-FREEZE e.submission.flags }) B.note;
+      (record { link = e.submission.link; until = e.submission.until; auto = bit AUTO_OR_FREEZE e.submission.flags }) B.note;
   pending = at (e.word - 1) true B.pending;
   came = B.came;
   went = B.went;
@@ -264,8 +264,8 @@ disputes e B = closes (e.submission.target - 1) B
 unfoldable pub replies : Said → Book → Book
 replies e B = cond (clear e.submission ACCEPTS) (disputes e B) (accepts e B)
 
-unfoldable pub sweeps-due : Said → Book → Book
-sweeps-due e B = sweeps e.submission.now e.submission.amount B
+unfoldable pub sweeps_due : Said → Book → Book
+sweeps_due e B = sweeps e.submission.now e.submission.amount B
 
 abbrev pub says_nothing : Said → Book → Book
 says_nothing e B = B
@@ -273,7 +273,7 @@ says_nothing e B = B
 -- by the operations' numbers, from 1 on; 8 is none
 abbrev pub sayings : List (Said → Book → Book)
 sayings =
-    grants ∷ transfers ∷ opens-escrow ∷ releases ∷ refunds ∷ makes-claim ∷ replies ∷ says_nothing ∷ sweeps-due ∷ says_nothing ∷ says_nothing ∷ says_nothing ∷ []
+    grants ∷ transfers ∷ opens_escrow ∷ releases ∷ refunds ∷ makes_claim ∷ replies ∷ says_nothing ∷ sweeps_due ∷ says_nothing ∷ says_nothing ∷ says_nothing ∷ []
 
 -- a refused submission says nothing
 unfoldable pub enters : Said → Book → Book
@@ -284,9 +284,9 @@ abbrev pub hears : Event → Book → Book
 hears (begun n) B = cond (eqb n 0) blank B
 hears (submitted e) B = enters e B
 
-abbrev pub bookFrom : Book → List Event → Book
-bookFrom B [] = B
-bookFrom B (e ∷ es) = bookFrom (hears e B) es
+abbrev pub book_from : Book → List Event → Book
+book_from B [] = B
+book_from B (e ∷ es) = book_from (hears e B) es
 
-abbrev pub bookOf : List Event → Book
-bookOf es = bookFrom blank es
+abbrev pub book_of : List Event → Book
+book_of es = book_from blank es

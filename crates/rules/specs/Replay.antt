@@ -1,9 +1,9 @@
 -- Document 02, request 1: "a replay on a fresh ledger that compares each answer and word, stops at the first entry that disagrees and reports it
 -- with both answers, or that all agree and how many there were". A cut entry "is reported as such and is not replayed".
 use Rattle.std.specs.Prelude.{List, [], ◌∷◌, Bool, cond, ◌&&◌, ℕ, ◌+◌, eqb}
-use Rattle.rules.specs.Limits.{NOT-REPLAYED, ALL-AGREE, CUT-SHORT, DISAGREES}
-use Rattle.rules.specs.Ledger.{Ledger, Outcome, lengthsRight, fresh}
-use Rattle.rules.specs.Recording.{Entry, asEntry, entriesOf, cutShort}
+use Rattle.rules.specs.Limits.{NOT_REPLAYED, ALL_AGREE, CUT_SHORT, DISAGREES}
+use Rattle.rules.specs.Ledger.{Ledger, Outcome, lengths_right, fresh}
+use Rattle.rules.specs.Recording.{Entry, as_entry, entries_of, cut_short}
 use Rattle.rules.specs.declared.Answer.{Answer}
 use Rattle.rules.specs.declared.Found.{Found}
 use Rattle.rules.specs.declared.Found.TheVariants.{WrongLength, AllAgree, CutShort, Disagrees}
@@ -19,7 +19,7 @@ Rule = Ledger → List ℕ → Outcome
 pub data Next (A B : Type 0) : Type 0 where
   on : A → Next A B
   stop : B → Next A B
-  stop-before : B → Next A B
+  stop_before : B → Next A B
 
 -- what is found, and the tables "as after the last entry replayed"
 pub record Gone (B : Type 0) : Type 0 where
@@ -33,7 +33,7 @@ gone found left = record { found = found; left = left }
 abbrev pub further : {A B : Type 0} → (A → Gone B) → Ledger → Ledger → Next A B → Gone B
 further rest L M (on a) = rest a
 further rest L M (stop b) = gone b M
-further rest L M (stop-before b) = gone b L
+further rest L M (stop_before b) = gone b L
 
 -- THE FOLD: from this ledger, through these entries, with what is said of each. `say` is told what is kept so far, the ledger before the entry,
 -- the entry, and what the rule gives for its record; `end` says what is found where no entry is left.
@@ -61,12 +61,12 @@ unfoldable pub ended : Bool → ℕ → Found
 ended cut n = cond cut (CutShort n) (AllAgree n)
 
 -- on tables as they are
-unfoldable pub replayOn : Rule → Ledger → List ℕ → Gone Found
-replayOn rule L r = through rule compared (ended (cutShort r)) 0 L (entriesOf r)
+unfoldable pub replay_on : Rule → Ledger → List ℕ → Gone Found
+replay_on rule L r = through rule compared (ended (cut_short r)) 0 L (entries_of r)
 
 -- THE REPLAY: on the tables started afresh. "Tables of a wrong length are answer 1."
 unfoldable pub replay : Rule → Ledger → List ℕ → Gone Found
-replay rule L r = cond (lengthsRight L) (replayOn rule (fresh L).left r) (gone WrongLength L)
+replay rule L r = cond (lengths_right L) (replay_on rule (fresh L).left r) (gone WrongLength L)
 
 -- ---- What each case says in numbers
 
@@ -79,22 +79,22 @@ verdict number finding replayed recorded answered = record {
   answered = answered;
 }
 
-abbrev pub verdictOf : Found → Verdict
-verdictOf WrongLength = verdict 1 NOT-REPLAYED 0 (answer 0 0) (answer 0 0)
-verdictOf (AllAgree n) = verdict 0 ALL-AGREE n (answer 0 0) (answer 0 0)
-verdictOf (CutShort n) = verdict 0 CUT-SHORT n (answer 0 0) (answer 0 0)
-verdictOf (Disagrees k recorded answered) = verdict 0 DISAGREES k recorded answered
+abbrev pub verdict_of : Found → Verdict
+verdict_of WrongLength = verdict 1 NOT_REPLAYED 0 (answer 0 0) (answer 0 0)
+verdict_of (AllAgree n) = verdict 0 ALL_AGREE n (answer 0 0) (answer 0 0)
+verdict_of (CutShort n) = verdict 0 CUT_SHORT n (answer 0 0) (answer 0 0)
+verdict_of (Disagrees k recorded answered) = verdict 0 DISAGREES k recorded answered
 
 abbrev pub told : Gone Found → Gone Verdict
-told g = gone (verdictOf g.found) g.left
+told g = gone (verdict_of g.found) g.left
 
 -- ---- What a core records
 
 -- the entries that records make, submitted one after the other from a ledger on, and the ledger that they leave
-abbrev pub recordedFrom : Rule → Ledger → List (List ℕ) → List Entry
-recordedFrom rule L [] = []
-recordedFrom rule L (b ∷ bs) = asEntry b (rule L b).number (rule L b).word ∷ recordedFrom rule (rule L b).left bs
+abbrev pub recorded_from : Rule → Ledger → List (List ℕ) → List Entry
+recorded_from rule L [] = []
+recorded_from rule L (b ∷ bs) = as_entry b (rule L b).number (rule L b).word ∷ recorded_from rule (rule L b).left bs
 
-abbrev pub ledgerAfter : Rule → Ledger → List (List ℕ) → Ledger
-ledgerAfter rule L [] = L
-ledgerAfter rule L (b ∷ bs) = ledgerAfter rule (rule L b).left bs
+abbrev pub ledger_after : Rule → Ledger → List (List ℕ) → Ledger
+ledger_after rule L [] = L
+ledger_after rule L (b ∷ bs) = ledger_after rule (rule L b).left bs

@@ -1,14 +1,14 @@
 -- Section "What settling does": small moves on the ledger first, then each operation over them, the sweep by its own rule, and the journal. What
 -- operations 7 and 8 do is the form's; a name without a form is today's.
 use Rattle.std.specs.Prelude.{List, [], ◌∷◌, Bool, cond, ◌&&◌, ℕ, ◌+◌, ◌-◌, get_or, eqb, ltb}
-use Rattle.rules.specs.Limits.{DEFAULT-TX-CAP-MICRO, DEFAULT-DAILY-CAP-MICRO, AUTO-OR-FREEZE, ACCEPTS, SWEEP, RELEASE-IMPOSSIBLE}
-use Rattle.rules.specs.Limits.{SYSTEM-FROZEN, CLOCK, GRANTED, BALANCE, LOCKED, FROZEN, TX-CAP, DAILY-CAP, IS-CLOSED, IS-OPEN, RELEASED, REFUNDED, EXPIRED}
-use Rattle.rules.specs.Limits.{FROM, TO, ESCROW-AMOUNT, ESCROW-DEADLINE, ESCROW-STATE, ESCROW-CLOSED-AT, ESCROW-CLOSED-BY}
-use Rattle.rules.specs.Limits.{RECEIPT-LINK, ACCEPTANCE-DEADLINE, AUTO-ACCEPT, RECEIPT-STATE, RECEIPT-CLOSED-AT, RECEIPT-CLOSED-BY, RELEASE-CODE}
+use Rattle.rules.specs.Limits.{DEFAULT_TX_CAP_MICRO, DEFAULT_DAILY_CAP_MICRO, AUTO_OR_FREEZE, ACCEPTS, SWEEP, RELEASE_IMPOSSIBLE}
+use Rattle.rules.specs.Limits.{SYSTEM_FROZEN, CLOCK, GRANTED, BALANCE, LOCKED, FROZEN, TX_CAP, DAILY_CAP, IS_CLOSED, IS_OPEN, RELEASED, REFUNDED, EXPIRED}
+use Rattle.rules.specs.Limits.{FROM, TO, ESCROW_AMOUNT, ESCROW_DEADLINE, ESCROW_STATE, ESCROW_CLOSED_AT, ESCROW_CLOSED_BY}
+use Rattle.rules.specs.Limits.{RECEIPT_LINK, ACCEPTANCE_DEADLINE, AUTO_ACCEPT, RECEIPT_STATE, RECEIPT_CLOSED_AT, RECEIPT_CLOSED_BY, RELEASE_CODE}
 use Rattle.rules.specs.Limits.{PENDING, ACCEPTED, DISPUTED, LAPSED}
 use Rattle.rules.specs.Table.{loop}
-use Rattle.rules.specs.Ledger.{Ledger, head, wallet, escrow, receipt, escrowCount, receiptCount, walletRow, hasWallet}
-use Rattle.rules.specs.Ledger.{putHead, putWallet, putEscrow, putReceipt, newWallet, newEscrow, newReceipt, newEntry}
+use Rattle.rules.specs.Ledger.{Ledger, head, wallet, escrow, receipt, escrow_count, receipt_count, wallet_row, has_wallet}
+use Rattle.rules.specs.Ledger.{put_head, put_wallet, put_escrow, put_receipt, new_wallet, new_escrow, new_receipt, new_entry}
 use Rattle.rules.specs.Record.{bit}
 use Rattle.rules.specs.Refusals.{clear, releasable}
 use Rattle.rules.specs.declared.Form.{Form}
@@ -17,30 +17,30 @@ use Rattle.rules.specs.declared.Submission.{Submission}
 
 -- more and less in a word of the wallet of id
 unfoldable pub raise : ℕ → ℕ → ℕ → Ledger → Ledger
-raise k id a L = putWallet (walletRow L id) k (wallet L (walletRow L id) k + a) L
+raise k id a L = put_wallet (wallet_row L id) k (wallet L (wallet_row L id) k + a) L
 
 unfoldable pub lower : ℕ → ℕ → ℕ → Ledger → Ledger
-lower k id a L = putWallet (walletRow L id) k (wallet L (walletRow L id) k - a) L
+lower k id a L = put_wallet (wallet_row L id) k (wallet L (wallet_row L id) k - a) L
 
 -- a missing wallet is made: zeros and the usual caps
-abbrev pub blankWallet : ℕ → List ℕ
-blankWallet id = id ∷ 0 ∷ 0 ∷ 0 ∷ DEFAULT-TX-CAP-MICRO ∷ DEFAULT-DAILY-CAP-MICRO ∷ []
+abbrev pub blank_wallet : ℕ → List ℕ
+blank_wallet id = id ∷ 0 ∷ 0 ∷ 0 ∷ DEFAULT_TX_CAP_MICRO ∷ DEFAULT_DAILY_CAP_MICRO ∷ []
 
-unfoldable pub ensureWallet : ℕ → Ledger → Ledger
-ensureWallet id L = cond (hasWallet L id) L (newWallet (blankWallet id) L)
+unfoldable pub ensure_wallet : ℕ → Ledger → Ledger
+ensure_wallet id L = cond (has_wallet L id) L (new_wallet (blank_wallet id) L)
 
 -- the escrow in row i ends: its credits leave its sender's locked for the recipient's balance if it is released, else for the sender's own
-unfoldable pub endEscrow : ℕ → ℕ → ℕ → ℕ → Ledger → Ledger
-endEscrow state now signer i L =
-    let a = escrow L i ESCROW-AMOUNT in
+unfoldable pub end_escrow : ℕ → ℕ → ℕ → ℕ → Ledger → Ledger
+end_escrow state now signer i L =
+    let a = escrow L i ESCROW_AMOUNT in
     raise BALANCE (cond (eqb state RELEASED) (escrow L i TO) (escrow L i FROM)) a
     (lower LOCKED (escrow L i FROM) a
-    (putEscrow i ESCROW-CLOSED-BY signer (putEscrow i ESCROW-CLOSED-AT now (putEscrow i ESCROW-STATE state L))))
+    (put_escrow i ESCROW_CLOSED_BY signer (put_escrow i ESCROW_CLOSED_AT now (put_escrow i ESCROW_STATE state L))))
 
 -- the receipt in row i is closed
-unfoldable pub closeReceipt : ℕ → ℕ → ℕ → ℕ → Ledger → Ledger
-closeReceipt state now signer i L =
-    putReceipt i RECEIPT-CLOSED-BY signer (putReceipt i RECEIPT-CLOSED-AT now (putReceipt i RECEIPT-STATE state L))
+unfoldable pub close_receipt : ℕ → ℕ → ℕ → ℕ → Ledger → Ledger
+close_receipt state now signer i L =
+    put_receipt i RECEIPT_CLOSED_BY signer (put_receipt i RECEIPT_CLOSED_AT now (put_receipt i RECEIPT_STATE state L))
 
 -- what an operation leaves, with the answer's word
 pub record Done : Type 0 where
@@ -51,13 +51,13 @@ abbrev pub done : ℕ → Ledger → Done
 done word after = record { word = word; after = after }
 
 -- the receipt in row i is accepted: its escrow is released if it is open and not stale, and is the word; if that is impossible, 29 is stored
-unfoldable pub acceptRow : ℕ → ℕ → ℕ → Ledger → Done
-acceptRow now signer i L =
-    let k = receipt L i RECEIPT-LINK in
-    let closed = closeReceipt ACCEPTED now signer i L in
+unfoldable pub accept_row : ℕ → ℕ → ℕ → Ledger → Done
+accept_row now signer i L =
+    let k = receipt L i RECEIPT_LINK in
+    let closed = close_receipt ACCEPTED now signer i L in
     cond (eqb k 0) (done 0 closed)
-    (cond (releasable L now (k - 1)) (done k (endEscrow RELEASED now signer (k - 1) closed))
-    (done 0 (putReceipt i RELEASE-CODE RELEASE-IMPOSSIBLE closed)))
+    (cond (releasable L now (k - 1)) (done k (end_escrow RELEASED now signer (k - 1) closed))
+    (done 0 (put_receipt i RELEASE_CODE RELEASE_IMPOSSIBLE closed)))
 
 -- a sweep under way: how many rows it may still close, how many it has closed
 pub record Sweep : Type 0 where
@@ -65,77 +65,77 @@ pub record Sweep : Type 0 where
   pub closed : ℕ
   pub tables : Ledger
 
-abbrev pub oneMore : Sweep → Ledger → Sweep
-oneMore s L = record { room = s.room - 1; closed = s.closed + 1; tables = L }
+abbrev pub one_more : Sweep → Ledger → Sweep
+one_more s L = record { room = s.room - 1; closed = s.closed + 1; tables = L }
 
-abbrev pub dueReceipt : Ledger → ℕ → ℕ → Bool
-dueReceipt L now i = eqb (receipt L i RECEIPT-STATE) PENDING && ltb (receipt L i ACCEPTANCE-DEADLINE) now
+abbrev pub due_receipt : Ledger → ℕ → ℕ → Bool
+due_receipt L now i = eqb (receipt L i RECEIPT_STATE) PENDING && ltb (receipt L i ACCEPTANCE_DEADLINE) now
 
-abbrev pub dueEscrow : Ledger → ℕ → ℕ → Bool
-dueEscrow L now i = eqb (escrow L i ESCROW-STATE) IS-OPEN && ltb (escrow L i ESCROW-DEADLINE) now
+abbrev pub due_escrow : Ledger → ℕ → ℕ → Bool
+due_escrow L now i = eqb (escrow L i ESCROW_STATE) IS_OPEN && ltb (escrow L i ESCROW_DEADLINE) now
 
 -- an auto-accept receipt is accepted, any other expires
-unfoldable pub closeDueReceipt : ℕ → ℕ → Ledger → Ledger
-closeDueReceipt now i L = cond (eqb (receipt L i AUTO-ACCEPT) 1) (acceptRow now 0 i L).after (closeReceipt LAPSED now 0 i L)
+unfoldable pub close_due_receipt : ℕ → ℕ → Ledger → Ledger
+close_due_receipt now i L = cond (eqb (receipt L i AUTO_ACCEPT) 1) (accept_row now 0 i L).after (close_receipt LAPSED now 0 i L)
 
 -- an escrow expires with its credits returned
-unfoldable pub closeDueEscrow : ℕ → ℕ → Ledger → Ledger
-closeDueEscrow now i L = endEscrow EXPIRED now 0 i L
+unfoldable pub close_due_escrow : ℕ → ℕ → Ledger → Ledger
+close_due_escrow now i L = end_escrow EXPIRED now 0 i L
 
-unfoldable pub sweepReceipt : ℕ → ℕ → Sweep → Sweep
-sweepReceipt now i s =
+unfoldable pub sweep_receipt : ℕ → ℕ → Sweep → Sweep
+sweep_receipt now i s =
     let L = s.tables in
-    cond (ltb 0 s.room && dueReceipt L now i) (oneMore s (closeDueReceipt now i L)) s
+    cond (ltb 0 s.room && due_receipt L now i) (one_more s (close_due_receipt now i L)) s
 
-unfoldable pub sweepEscrow : ℕ → ℕ → Sweep → Sweep
-sweepEscrow now i s =
+unfoldable pub sweep_escrow : ℕ → ℕ → Sweep → Sweep
+sweep_escrow now i s =
     let L = s.tables in
-    cond (ltb 0 s.room && dueEscrow L now i) (oneMore s (closeDueEscrow now i L)) s
+    cond (ltb 0 s.room && due_escrow L now i) (one_more s (close_due_escrow now i L)) s
 
-abbrev pub sweepStart : ℕ → Ledger → Sweep
-sweepStart limit L = record { room = limit; closed = 0; tables = L }
+abbrev pub sweep_start : ℕ → Ledger → Sweep
+sweep_start limit L = record { room = limit; closed = 0; tables = L }
 
 -- due receipts in row order first, then due escrows in row order
-unfoldable pub sweptReceipts : ℕ → ℕ → Ledger → Sweep
-sweptReceipts now limit L = loop (receiptCount L) (sweepReceipt now) (sweepStart limit L)
+unfoldable pub swept_receipts : ℕ → ℕ → Ledger → Sweep
+swept_receipts now limit L = loop (receipt_count L) (sweep_receipt now) (sweep_start limit L)
 
 unfoldable pub swept : ℕ → ℕ → Ledger → Sweep
-swept now limit L = loop (escrowCount L) (sweepEscrow now) (sweptReceipts now limit L)
+swept now limit L = loop (escrow_count L) (sweep_escrow now) (swept_receipts now limit L)
 
 -- what each operation does, but for the clock and the journal
 unfoldable pub grant : Submission → Ledger → Done
-grant s L = done 0 (putHead GRANTED (head L GRANTED + s.amount) (raise BALANCE s.target s.amount (ensureWallet s.target L)))
+grant s L = done 0 (put_head GRANTED (head L GRANTED + s.amount) (raise BALANCE s.target s.amount (ensure_wallet s.target L)))
 
 unfoldable pub transfer : Submission → Ledger → Done
-transfer s L = done 0 (raise BALANCE s.target s.amount (lower BALANCE s.signer s.amount (ensureWallet s.target L)))
+transfer s L = done 0 (raise BALANCE s.target s.amount (lower BALANCE s.signer s.amount (ensure_wallet s.target L)))
 
-abbrev pub escrowOf : Submission → List ℕ
-escrowOf s = s.signer ∷ s.target ∷ s.amount ∷ s.until ∷ IS-OPEN ∷ s.now ∷ 0 ∷ 0 ∷ []
+abbrev pub escrow_of : Submission → List ℕ
+escrow_of s = s.signer ∷ s.target ∷ s.amount ∷ s.until ∷ IS_OPEN ∷ s.now ∷ 0 ∷ 0 ∷ []
 
-unfoldable pub openEscrow : Submission → Ledger → Done
-openEscrow s L =
-    done (escrowCount L + 1)
-    (newEscrow (escrowOf s) (raise LOCKED s.signer s.amount (lower BALANCE s.signer s.amount (ensureWallet s.target L))))
+unfoldable pub open_escrow : Submission → Ledger → Done
+open_escrow s L =
+    done (escrow_count L + 1)
+    (new_escrow (escrow_of s) (raise LOCKED s.signer s.amount (lower BALANCE s.signer s.amount (ensure_wallet s.target L))))
 
 unfoldable pub release : Submission → Ledger → Done
-release s L = done 0 (endEscrow RELEASED s.now s.signer (s.target - 1) L)
+release s L = done 0 (end_escrow RELEASED s.now s.signer (s.target - 1) L)
 
 unfoldable pub refund : Submission → Ledger → Done
-refund s L = done 0 (endEscrow REFUNDED s.now s.signer (s.target - 1) L)
+refund s L = done 0 (end_escrow REFUNDED s.now s.signer (s.target - 1) L)
 
-abbrev pub receiptOf : Submission → List ℕ
-receiptOf s =
-    s.signer ∷ s.target ∷ s.link ∷ s.until ∷ bit AUTO-OR-FREEZE s.flags ∷ PENDING ∷ s.now ∷ 0 ∷ 0 ∷ 0
+abbrev pub receipt_of : Submission → List ℕ
+receipt_of s =
+    s.signer ∷ s.target ∷ s.link ∷ s.until ∷ bit AUTO_OR_FREEZE s.flags ∷ PENDING ∷ s.now ∷ 0 ∷ 0 ∷ 0
     ∷ s.hash0 ∷ s.hash1 ∷ s.hash2 ∷ s.hash3 ∷ []
 
 unfoldable pub claim : Submission → Ledger → Done
-claim s L = done (receiptCount L + 1) (newReceipt (receiptOf s) L)
+claim s L = done (receipt_count L + 1) (new_receipt (receipt_of s) L)
 
 unfoldable pub accept : Submission → Ledger → Done
-accept s L = acceptRow s.now s.signer (s.target - 1) L
+accept s L = accept_row s.now s.signer (s.target - 1) L
 
 unfoldable pub dispute : Submission → Ledger → Done
-dispute s L = done 0 (closeReceipt DISPUTED s.now s.signer (s.target - 1) L)
+dispute s L = done 0 (close_receipt DISPUTED s.now s.signer (s.target - 1) L)
 
 -- "operation 7 with bit 2 for accept, clear for dispute"
 unfoldable pub reply : Submission → Ledger → Done
@@ -147,15 +147,15 @@ sweep s L = done (swept s.now s.amount L).closed (swept s.now s.amount L).tables
 unfoldable pub freeze : Submission → Ledger → Done
 freeze s L =
     done 0
-    (cond (eqb s.target 0) (putHead SYSTEM-FROZEN (bit AUTO-OR-FREEZE s.flags) L)
-    (putWallet (walletRow L s.target) FROZEN (bit AUTO-OR-FREEZE s.flags) L))
+    (cond (eqb s.target 0) (put_head SYSTEM_FROZEN (bit AUTO_OR_FREEZE s.flags) L)
+    (put_wallet (wallet_row L s.target) FROZEN (bit AUTO_OR_FREEZE s.flags) L))
 
 unfoldable pub caps : Submission → Ledger → Done
 caps s L =
-    done 0 (putWallet (walletRow L s.target) DAILY-CAP s.link (putWallet (walletRow L s.target) TX-CAP s.amount L))
+    done 0 (put_wallet (wallet_row L s.target) DAILY_CAP s.link (put_wallet (wallet_row L s.target) TX_CAP s.amount L))
 
 unfoldable pub close : Submission → Ledger → Done
-close s L = done 0 (putWallet (walletRow L s.target) FROZEN IS-CLOSED L)
+close s L = done 0 (put_wallet (wallet_row L s.target) FROZEN IS_CLOSED L)
 
 -- what is no operation: no well-formed record has it
 abbrev pub idle : Submission → Ledger → Done
@@ -170,29 +170,29 @@ does8 Old = dispute
 does8 Today = idle
 
 -- the operations by their numbers, from 1 on
-abbrev pub operationsBy : Form → List (Submission → Ledger → Done)
-operationsBy form =
-    grant ∷ transfer ∷ openEscrow ∷ release ∷ refund ∷ claim ∷ does7 form ∷ does8 form ∷ sweep ∷ freeze ∷ caps ∷ close ∷ []
+abbrev pub operations_by : Form → List (Submission → Ledger → Done)
+operations_by form =
+    grant ∷ transfer ∷ open_escrow ∷ release ∷ refund ∷ claim ∷ does7 form ∷ does8 form ∷ sweep ∷ freeze ∷ caps ∷ close ∷ []
 
-unfoldable pub operateBy : Form → Submission → Ledger → Done
-operateBy form s = get_or (operationsBy form) (s.op - 1) idle s
+unfoldable pub operate_by : Form → Submission → Ledger → Done
+operate_by form s = get_or (operations_by form) (s.op - 1) idle s
 
 abbrev pub operations : List (Submission → Ledger → Done)
-operations = operationsBy Today
+operations = operations_by Today
 
 abbrev pub operate : Submission → Ledger → Done
-operate = operateBy Today
+operate = operate_by Today
 
 -- all but a sweep add one journal row
 abbrev pub entry_of : Submission → ℕ → List ℕ
 entry_of s word = s.signer ∷ s.nonce ∷ s.op ∷ s.target ∷ s.amount ∷ s.now ∷ word ∷ s.link ∷ []
 
 unfoldable pub enter : Submission → ℕ → Ledger → Ledger
-enter s word L = cond (eqb s.op SWEEP) L (newEntry (entry_of s word) L)
+enter s word L = cond (eqb s.op SWEEP) L (new_entry (entry_of s word) L)
 
 -- SETTLING: the operation, then the clock, then the journal
-unfoldable pub settleBy : Form → Submission → Ledger → Done
-settleBy form s L = let d = operateBy form s L in done d.word (enter s d.word (putHead CLOCK s.now d.after))
+unfoldable pub settle_by : Form → Submission → Ledger → Done
+settle_by form s L = let d = operate_by form s L in done d.word (enter s d.word (put_head CLOCK s.now d.after))
 
 abbrev pub settle : Submission → Ledger → Done
-settle = settleBy Today
+settle = settle_by Today

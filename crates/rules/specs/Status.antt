@@ -6,5 +6,5 @@ statuses =
     200 ∷ 500 ∷ 500 ∷ 400 ∷ 409 ∷ 503 ∷ 400 ∷ 403 ∷ 400 ∷ 400 ∷ 400 ∷ 409 ∷ 400 ∷ 404 ∷ 403 ∷ 400 ∷ 404 ∷ 402 ∷ 400 ∷ 429 ∷ 400
     ∷ 400 ∷ 404 ∷ 404 ∷ 400 ∷ 400 ∷ 400 ∷ 404 ∷ 403 ∷ 409 ∷ 400 ∷ 400 ∷ 404 ∷ 403 ∷ 409 ∷ 400 ∷ 409 ∷ 507 ∷ 507 ∷ 507 ∷ 507 ∷ 409 ∷ 409 ∷ 403 ∷ []
 
-abbrev pub statusOf : ℕ → ℕ
-statusOf number = get_or statuses number 500
+abbrev pub status_of : ℕ → ℕ
+status_of number = get_or statuses number 500

@@ -2,18 +2,18 @@
 use Rattle.std.specs.Prelude.{List, ℕ, zero, suc}
 use Rattle.rules.specs.Ledger.{Ledger, Outcome, outcome}
 use Rattle.rules.specs.Record.{read_by, read_of}
-use Rattle.rules.specs.Refusals.{first, refusalsBy}
-use Rattle.rules.specs.Settle.{Done, settleBy}
+use Rattle.rules.specs.Refusals.{first, refusals_by}
+use Rattle.rules.specs.Settle.{Done, settle_by}
 use Rattle.rules.specs.declared.Form.{Form}
 use Rattle.rules.specs.declared.Form.TheVariants.{Today}
 use Rattle.rules.specs.declared.Read.{Read}
 
 -- the number of the answer
-unfoldable pub answerBy : Form → Ledger → Read → ℕ
-answerBy form L r = first (refusalsBy form L r)
+unfoldable pub answer_by : Form → Ledger → Read → ℕ
+answer_by form L r = first (refusals_by form L r)
 
 abbrev pub answer_of : Ledger → Read → ℕ
-answer_of = answerBy Today
+answer_of = answer_by Today
 
 -- what bytes are read as, and the number of their answer: all that is decided before anything changes
 abbrev pub decided : Ledger → List ℕ → Read
@@ -24,15 +24,15 @@ abbrev pub finish : ℕ → Done → Ledger → Outcome
 finish zero d L = outcome 0 d.word d.after
 finish (suc n) d L = outcome (suc n) 0 L
 
-unfoldable pub submitReadBy : Form → Ledger → Read → Outcome
-submitReadBy form L r = finish (answerBy form L r) (settleBy form r.submission L) L
+unfoldable pub submit_read_by : Form → Ledger → Read → Outcome
+submit_read_by form L r = finish (answer_by form L r) (settle_by form r.submission L) L
 
-unfoldable pub submitBy : Form → Ledger → List ℕ → Outcome
-submitBy form L bytes = submitReadBy form L (read_by form bytes)
+unfoldable pub submit_by : Form → Ledger → List ℕ → Outcome
+submit_by form L bytes = submit_read_by form L (read_by form bytes)
 
-abbrev pub submitRead : Ledger → Read → Outcome
-submitRead = submitReadBy Today
+abbrev pub submit_read : Ledger → Read → Outcome
+submit_read = submit_read_by Today
 
 -- THE CALL: a ledger, and the bytes of a record
 abbrev pub submit : Ledger → List ℕ → Outcome
-submit = submitBy Today
+submit = submit_by Today

@@ -11,12 +11,12 @@ abbrev pub put : List ℕ → ℕ → ℕ → ℕ → ℕ → List ℕ
 put t len row k v = set t (row * len + k) v
 
 -- the table with the words vs as a row
-abbrev pub putRow : List ℕ → ℕ → ℕ → List ℕ → List ℕ
-putRow t len row vs = sets t (row * len) vs
+abbrev pub put_row : List ℕ → ℕ → ℕ → List ℕ → List ℕ
+put_row t len row vs = sets t (row * len) vs
 
 -- how many rows a table has
-abbrev pub rowsIn : ℕ → List ℕ → ℕ
-rowsIn len t = length t / len
+abbrev pub rows_in : ℕ → List ℕ → ℕ
+rows_in len t = length t / len
 
 -- every test of a list holds
 abbrev pub all : List Bool → Bool
@@ -25,8 +25,8 @@ all (b ∷ []) = b
 all (b ∷ c ∷ bs) = b && all (c ∷ bs)
 
 -- a table has at least one row, a whole number of rows, and at most `most`
-abbrev pub tableRight : ℕ → ℕ → List ℕ → Bool
-tableRight len most t = all (leb len (length t) ∷ eqb (length t % len) 0 ∷ leb (rowsIn len t) most ∷ [])
+abbrev pub table_right : ℕ → ℕ → List ℕ → Bool
+table_right len most t = all (leb len (length t) ∷ eqb (length t % len) 0 ∷ leb (rows_in len t) most ∷ [])
 
 -- the sum of f below n
 unfoldable pub sum : ℕ → (ℕ → ℕ) → ℕ

@@ -4,12 +4,12 @@
 -- report, which is held against cells, figures and what is named. Or it is an old recording, which is held against what it is converted to, and whose
 -- replay by the old form and, converted, by today's against one verdict.
 use Rattle.std.specs.Prelude.{List, [], ◌∷◌, ◌++◌, Bool, true, false, cond, ◌&&◌, ℕ, ◌+◌, ◌-◌, get_or, set, replicate, eqb}
-use Rattle.rules.specs.Limits.{BALANCE, LOCKED, RELEASE-CODE}
-use Rattle.rules.specs.Ledger.{Ledger, ledger, fresh, walletOf, receipt}
+use Rattle.rules.specs.Limits.{BALANCE, LOCKED, RELEASE_CODE}
+use Rattle.rules.specs.Ledger.{Ledger, ledger, fresh, wallet_of, receipt}
 use Rattle.rules.specs.Record.{encode}
-use Rattle.rules.specs.Submit.{submitBy, submit}
-use Rattle.rules.specs.Recording.{Entry, asEntry, recordingOf}
-use Rattle.rules.specs.Replay.{replay, verdictOf}
+use Rattle.rules.specs.Submit.{submit_by, submit}
+use Rattle.rules.specs.Recording.{Entry, as_entry, recording_of}
+use Rattle.rules.specs.Replay.{replay, verdict_of}
 use Rattle.rules.specs.Report.{Grid, cell, Report, report}
 use Rattle.rules.specs.Convert.{converted}
 use Rattle.rules.specs.declared.Form.TheVariants.{Old}
@@ -92,35 +92,35 @@ pub record Case : Type 0 where
 -- ---- Whether it holds
 
 -- tables of 4 wallets, 4 escrows, 4 receipts and 8 journal rows, every word of them at its largest
-abbrev pub ODD-WORD : ℕ
-ODD-WORD = 18_446_744_073_709_551_615
+abbrev pub ODD_WORD : ℕ
+ODD_WORD = 18_446_744_073_709_551_615
 
 abbrev pub tables : Ledger
 tables =
-    ledger (replicate 8 ODD-WORD) (replicate 24 ODD-WORD) (replicate 32 ODD-WORD) (replicate 56 ODD-WORD) (replicate 64 ODD-WORD)
+    ledger (replicate 8 ODD_WORD) (replicate 24 ODD_WORD) (replicate 32 ODD_WORD) (replicate 56 ODD_WORD) (replicate 64 ODD_WORD)
 
-abbrev pub hasAll : Ledger → List Has → Bool
-hasAll L [] = true
-hasAll L (h ∷ hs) = eqb (walletOf L h.id BALANCE) h.balance && (eqb (walletOf L h.id LOCKED) h.locked && hasAll L hs)
+abbrev pub has_all : Ledger → List Has → Bool
+has_all L [] = true
+has_all L (h ∷ hs) = eqb (wallet_of L h.id BALANCE) h.balance && (eqb (wallet_of L h.id LOCKED) h.locked && has_all L hs)
 
-abbrev pub codesAll : Ledger → List Code → Bool
-codesAll L [] = true
-codesAll L (c ∷ cs) = eqb (receipt L (c.number - 1) RELEASE-CODE) c.code && codesAll L cs
+abbrev pub codes_all : Ledger → List Code → Bool
+codes_all L [] = true
+codes_all L (c ∷ cs) = eqb (receipt L (c.number - 1) RELEASE_CODE) c.code && codes_all L cs
 
 abbrev pub goes : List Step → Ledger → Bool
 goes [] L = true
 goes (x ∷ xs) L =
     let a = submit L (encode x.submission) in
-    eqb a.number x.number && (eqb a.word x.word && (hasAll a.left x.has && (codesAll a.left x.codes && goes xs a.left)))
+    eqb a.number x.number && (eqb a.word x.word && (has_all a.left x.has && (codes_all a.left x.codes && goes xs a.left)))
 
-abbrev sameAnswer : Answer → Answer → Bool
-sameAnswer x y = eqb x.number y.number && eqb x.word y.word
+abbrev same_answer : Answer → Answer → Bool
+same_answer x y = eqb x.number y.number && eqb x.word y.word
 
-abbrev pub sameVerdict : Verdict → Verdict → Bool
-sameVerdict v w =
+abbrev pub same_verdict : Verdict → Verdict → Bool
+same_verdict v w =
     eqb v.number w.number
     && (eqb v.finding w.finding
-    && (eqb v.replayed w.replayed && (sameAnswer v.recorded w.recorded && sameAnswer v.answered w.answered)))
+    && (eqb v.replayed w.replayed && (same_answer v.recorded w.recorded && same_answer v.answered w.answered)))
 
 abbrev same_words : List ℕ → List ℕ → Bool
 same_words [] [] = true
@@ -128,48 +128,48 @@ same_words [] (y ∷ ys) = false
 same_words (x ∷ xs) [] = false
 same_words (x ∷ xs) (y ∷ ys) = eqb x y && same_words xs ys
 
-abbrev sameGrid : Grid → Grid → Bool
-sameGrid [] [] = true
-sameGrid [] (y ∷ ys) = false
-sameGrid (x ∷ xs) [] = false
-sameGrid (x ∷ xs) (y ∷ ys) = same_words x y && sameGrid xs ys
+abbrev same_grid : Grid → Grid → Bool
+same_grid [] [] = true
+same_grid [] (y ∷ ys) = false
+same_grid (x ∷ xs) [] = false
+same_grid (x ∷ xs) (y ∷ ys) = same_words x y && same_grid xs ys
 
-abbrev sameTables : Ledger → Ledger → Bool
-sameTables L M =
+abbrev same_tables : Ledger → Ledger → Bool
+same_tables L M =
     same_words L.header M.header
     && (same_words L.wallets M.wallets
     && (same_words L.escrows M.escrows && (same_words L.receipts M.receipts && same_words L.journal M.journal)))
 
-abbrev tablesAll : Ledger → List Ledger → Bool
-tablesAll L [] = true
-tablesAll L (M ∷ Ms) = sameTables L M && tablesAll L Ms
+abbrev tables_all : Ledger → List Ledger → Bool
+tables_all L [] = true
+tables_all L (M ∷ Ms) = same_tables L M && tables_all L Ms
 
 -- the grid with these cells more
-abbrev pub withCells : Grid → List Counted → Grid
-withCells grid [] = grid
-withCells grid (c ∷ cs) =
-    withCells (set grid c.row (set (get_or grid c.row []) c.column (cell grid c.row c.column + c.count))) cs
+abbrev pub with_cells : Grid → List Counted → Grid
+with_cells grid [] = grid
+with_cells grid (c ∷ cs) =
+    with_cells (set grid c.row (set (get_or grid c.row []) c.column (cell grid c.row c.column + c.count))) cs
 
 -- from this report and these tables on, and then the report is m's
-abbrev pub adds-up : Report → Ledger → List Added → Reporting → Bool
-adds-up R L [] m =
-    sameGrid R.grid (withCells m.before.grid m.cells) && (same_words R.figures m.figures && same_words R.named m.named)
-adds-up R L (a ∷ more) m =
-    let x = report submit R L (recordingOf a.entries ++ a.rest) in
+abbrev pub adds_up : Report → Ledger → List Added → Reporting → Bool
+adds_up R L [] m =
+    same_grid R.grid (with_cells m.before.grid m.cells) && (same_words R.figures m.figures && same_words R.named m.named)
+adds_up R L (a ∷ more) m =
+    let x = report submit R L (recording_of a.entries ++ a.rest) in
     eqb x.number a.number
-    && (eqb x.entries a.read && (hasAll x.left a.has && (tablesAll x.left a.left && adds-up x.report x.left more m)))
+    && (eqb x.entries a.read && (has_all x.left a.has && (tables_all x.left a.left && adds_up x.report x.left more m)))
 
 abbrev pub holds : Trial → Bool
 holds (settles steps) = goes steps (fresh tables).left
 holds (replays r) =
-    let g = replay submit r.on (recordingOf r.entries ++ r.rest) in
-    sameVerdict (verdictOf g.found) r.verdict && hasAll g.left r.has
-holds (reports m) = adds-up m.before m.on m.adds m
+    let g = replay submit r.on (recording_of r.entries ++ r.rest) in
+    same_verdict (verdict_of g.found) r.verdict && has_all g.left r.has
+holds (reports m) = adds_up m.before m.on m.adds m
 holds (converts c) =
-    let old = recordingOf c.entries ++ c.rest in
-    let new = recordingOf c.becomes ++ c.rest in
+    let old = recording_of c.entries ++ c.rest in
+    let new = recording_of c.becomes ++ c.rest in
     same_words (converted old) new
-    && (sameVerdict (verdictOf (replay (submitBy Old) tables old).found) c.verdict && sameVerdict (verdictOf (replay submit tables new).found) c.verdict)
+    && (same_verdict (verdict_of (replay (submit_by Old) tables old).found) c.verdict && same_verdict (verdict_of (replay submit tables new).found) c.verdict)
 
 -- the labels of the cases that do not hold
 abbrev pub failing : List Case → List ℕ
@@ -212,10 +212,10 @@ has id balance locked = record { id = id; balance = balance; locked = locked }
 
 -- a step as it is recorded, and with another answer in its place
 abbrev pub entry : Step → Entry
-entry x = asEntry (encode x.submission) x.number x.word
+entry x = as_entry (encode x.submission) x.number x.word
 
-abbrev pub entry-as : Step → ℕ → ℕ → Entry
-entry-as x number word = asEntry (encode x.submission) number word
+abbrev pub entry_as : Step → ℕ → ℕ → Entry
+entry_as x number word = as_entry (encode x.submission) number word
 
 -- a recording replayed on the tables
 abbrev pub recorded : ℕ → List Entry → List ℕ → Verdict → List Has → Case
@@ -229,19 +229,19 @@ abbrev pub added : List Entry → ℕ → List Has → Added
 added entries read has = record { entries = entries; rest = []; number = 0; read = read; has = has; left = [] }
 
 -- .. and it leaves these tables
-abbrev pub added-leaving : List Entry → ℕ → ℕ → Ledger → Added
-added-leaving entries number read left = record { entries = entries; rest = []; number = number; read = read; has = []; left = left ∷ [] }
+abbrev pub added_leaving : List Entry → ℕ → ℕ → Ledger → Added
+added_leaving entries number read left = record { entries = entries; rest = []; number = number; read = read; has = []; left = left ∷ [] }
 
 abbrev pub counted : ℕ → ℕ → ℕ → Counted
 counted row column count = record { row = row; column = column; count = count }
 
 -- a report brought along, and recordings added to it on the tables
-abbrev pub reported-from : ℕ → Report → List Added → List Counted → List ℕ → List ℕ → Case
-reported-from label before adds cells figures named = record {
+abbrev pub reported_from : ℕ → Report → List Added → List Counted → List ℕ → List ℕ → Case
+reported_from label before adds cells figures named = record {
   label = label;
   trial = reports (record { before = before; on = tables; adds = adds; cells = cells; figures = figures; named = named });
 }
 
 -- an old recording, converted
-abbrev pub converts-to : ℕ → List Entry → List ℕ → List Entry → Verdict → Case
-converts-to label entries rest becomes v = record { label = label; trial = converts (record { entries = entries; rest = rest; becomes = becomes; verdict = v }) }
+abbrev pub converts_to : ℕ → List Entry → List ℕ → List Entry → Verdict → Case
+converts_to label entries rest becomes v = record { label = label; trial = converts (record { entries = entries; rest = rest; becomes = becomes; verdict = v }) }

@@ -2,7 +2,7 @@
 #![tactic(auto)]
 
 ghost use Rattle.std.specs.Prelude.{◌≡◌};
-ghost use Rattle.rules.specs.Status.{statusOf};
+ghost use Rattle.rules.specs.Status.{status_of};
 
 use crate::limits::{ANSWERS, ESCROW_LEN, FIRST_EDITION, HEADER_LEN, LAST_ANSWER};
 
@@ -94,7 +94,7 @@ pub struct Edition {
     pub escrow: usize,
 }
 
-// The first, as document 01 has it; `first-edition` of the definitions.
+// The first, as document 01 has it; `first_edition` of the definitions.
 pub const FIRST: Edition = Edition {
     number: FIRST_EDITION,
     header: HEADER_LEN,
@@ -141,7 +141,7 @@ const STATUSES: [u64; ANSWERS] = [
 
 // The status of an answer; any other number has 500.
 pub fn status(number: u64) -> u64
-    ensures { result ≡ statusOf number }
+    ensures { result ≡ status_of number }
 {
     if number <= LAST_ANSWER {
         STATUSES[number as usize]

@@ -3,7 +3,7 @@
 // Row lengths in words, and the most rows.
 pub const WALLET_LEN: usize = 6;
 
-// The first edition's header and escrow row; specs/Ledger.antt has them in `first-edition`.
+// The first edition's header and escrow row; specs/Ledger.antt has them in `first_edition`.
 pub const HEADER_LEN: usize = 8;
 
 pub const ESCROW_LEN: usize = 8;

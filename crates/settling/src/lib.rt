@@ -2,9 +2,9 @@
 #![tactic(auto)]
 
 ghost use Rattle.std.specs.Prelude.{◌≡◌, ◌<◌, ◌≤◌, length, get_or};
-ghost use Rattle.rules.specs.Limits.{MAX-ENTRIES, ENTRIES};
+ghost use Rattle.rules.specs.Limits.{MAX_ENTRIES, ENTRIES};
 ghost use Rattle.rules.specs.Ledger.{Ledger};
-ghost use Rattle.rules.specs.Moments.{tables, lent, any, ◌of-edition◌, ◌with-header◌, ◌with-wallets◌, ◌with-escrows◌, ◌with-receipts◌, ◌with-journal◌};
+ghost use Rattle.rules.specs.Moments.{tables, lent, any, ◌of_edition◌, ◌with_header◌, ◌with_wallets◌, ◌with_escrows◌, ◌with_receipts◌, ◌with_journal◌};
 ghost use Rattle.rules.specs.Settle.{done, operate, enter, settle};
 ghost use Rattle.settling.specs.Needs.{Settles, Operates};
 
@@ -24,7 +24,7 @@ fn operate(
     s: Submission,
 ) -> u64
     requires { Operates edition header.old wallets.old escrows.old receipts.old s }
-    ensures { (K : Ledger) → let L = any K of-edition edition with-header header with-wallets wallets with-escrows escrows with-receipts receipts in done result L.exit ≡ operate s L.entry }
+    ensures { (K : Ledger) → let L = any K of_edition edition with_header header with_wallets wallets with_escrows escrows with_receipts receipts in done result L.exit ≡ operate s L.entry }
 {
     let op = s.op;
     match op {
@@ -46,8 +46,8 @@ fn operate(
 
 // All but a sweep add one journal row.
 fn enter(header: &mut [u64], journal: &mut [u64], s: Submission, word: u64)
-    requires { (ENTRIES < length header.old) × (get_or header.old ENTRIES 0 ≤ MAX-ENTRIES) }
-    ensures { (K : Ledger) → let L = any K with-header header with-journal journal in L.exit ≡ enter s word L.entry }
+    requires { (ENTRIES < length header.old) × (get_or header.old ENTRIES 0 ≤ MAX_ENTRIES) }
+    ensures { (K : Ledger) → let L = any K with_header header with_journal journal in L.exit ≡ enter s word L.entry }
 {
     if s.op == SWEEP {
         return;

@@ -12,15 +12,15 @@ use borrow.Author.Tests.{eqb-false, ne_eqb, lt-ltb, le-leb, lt-leb}
 use Rattle.rules.specs.Limits.{FROM, TO}
 use Rattle.rules.specs.Table.{word}
 use Rattle.rules.specs.Ledger.{written}
-use Rattle.rules.proofs.Rows.{row-end}
+use Rattle.rules.proofs.Rows.{row_end}
 
-pub link-past : (m k : ℕ) (b : Bool) → m < k → false ≡ (eqb k 0 || (written m k && b))
-link-past m k b l = rw (ne_eqb k 0 (omega arith), lt-ltb 0 k (omega arith), lt-leb k m l)
+pub link_past : (m k : ℕ) (b : Bool) → m < k → false ≡ (eqb k 0 || (written m k && b))
+link_past m k b l = rw (ne_eqb k 0 (omega arith), lt-ltb 0 k (omega arith), lt-leb k m l)
 
-pub link-within : (len : ℕ) (e : List ℕ) (m k row requester provider : ℕ) → k ≤ m → row ≡ k - 1
+pub link_within : (len : ℕ) (e : List ℕ) (m k row requester provider : ℕ) → k ≤ m → row ≡ k - 1
     → (eqb k 0 || (eqb (word e len row FROM) requester && eqb (word e len row TO) provider))
     ≡ (eqb k 0 || (written m k && (eqb (word e len (k - 1) FROM) requester && eqb (word e len (k - 1) TO) provider)))
-link-within len e m k row requester provider l r = rw r (go (eqb k 0) refl)
+link_within len e m k row requester provider l r = rw r (go (eqb k 0) refl)
   where
     found : Bool
     found = eqb (word e len (k - 1) FROM) requester && eqb (word e len (k - 1) TO) provider
@@ -35,4 +35,4 @@ row_in len m k row e fits one l r = go (ℕ_discrete k 0)
   where
     go : Dec (k ≡ 0) → row * len + len ≤ length e
     go (yes z) = let x : row ≡ 0 = omega arith in rw x (omega (arith, zero-mul len, one))
-    go (no z) = row-end len m row e fits (omega (arith, z))
+    go (no z) = row_end len m row e fits (omega (arith, z))

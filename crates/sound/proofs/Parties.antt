@@ -7,27 +7,27 @@ use native.Mathlib.Omega.{arith}
 use lib.Dec.{eqb, ltb}
 use lib.ListN.{replicate, length-replicate}
 use borrow.Author.Tests.{not-true, not-false, lt-ltb}
-use Rattle.rules.specs.Limits.{WALLET-LEN, ID, LOCKED}
+use Rattle.rules.specs.Limits.{WALLET_LEN, ID, LOCKED}
 use Rattle.rules.specs.Table.{word, all, every, distinct}
-use Rattle.rules.specs.Sound.{escrowTests}
+use Rattle.rules.specs.Sound.{escrow_tests}
 use Rattle.rules.proofs.Rows.{zeros}
-use Rattle.rules.proofs.Counts.{sum-none, every-ext, distinct-ext}
+use Rattle.rules.proofs.Counts.{sum_none, every_ext, distinct_ext}
 use Rattle.index.specs.Index.{NUMBERS, id_at, Copied, Filled, Indexed}
-use Rattle.index.proofs.Laws.{indexed-apart}
-use Rattle.sound.specs.Parts.{parties, Tables, held_of, Held, HeldAll, lockedIs, partiesRight}
+use Rattle.index.proofs.Laws.{indexed_apart}
+use Rattle.sound.specs.Parts.{parties, Tables, held_of, Held, HeldAll, locked_is, parties_right}
 
 -- no escrow yet
 pub held_none : (len : ℕ) (w : List ℕ) (n : ℕ) (e : List ℕ) → Held len w n e 0 (replicate NUMBERS 0)
-held_none len w n e = record { room = length-replicate {A = ℕ} NUMBERS 0; sum = λ i h. zeros NUMBERS (i + 1) ∙ sym (sum-none _) }
+held_none len w n e = record { room = length-replicate {A = ℕ} NUMBERS 0; sum = λ i h. zeros NUMBERS (i + 1) ∙ sym (sum_none _) }
 
 module _ (len : ℕ) (w : List ℕ) (n : ℕ) (e : List ℕ) (m : ℕ) (ids t : List ℕ) where
-  ids-agree : Copied w n ids → distinct n (id_at ids) ≡ distinct n (λ i. word w WALLET-LEN i ID)
-  ids-agree c = distinct-ext n (id_at ids) (λ i. word w WALLET-LEN i ID) c.same
+  ids_agree : Copied w n ids → distinct n (id_at ids) ≡ distinct n (λ i. word w WALLET_LEN i ID)
+  ids_agree c = distinct_ext n (id_at ids) (λ i. word w WALLET_LEN i ID) c.same
 
-  pub same-ids : (most : ℕ) → Copied w n ids → Filled ids n t most → most ≡ 0 → false ≡ partiesRight len w n e m
-  unfolding partiesRight
-  same-ids most c f z =
-      let d : distinct n (λ i. word w WALLET-LEN i ID) ≡ false = sym (ids-agree c) ∙ sym f.right ∙ ap (ltb 0) z in
+  pub same_ids : (most : ℕ) → Copied w n ids → Filled ids n t most → most ≡ 0 → false ≡ parties_right len w n e m
+  unfolding parties_right
+  same_ids most c f z =
+      let d : distinct n (λ i. word w WALLET_LEN i ID) ≡ false = sym (ids_agree c) ∙ sym f.right ∙ ap (ltb 0) z in
       rw d
 
   pub indexed : (most : ℕ) → Tables len w n e m → Copied w n ids → Filled ids n t most → (most ≡ 0 → ⊥) → Indexed w n ids t
@@ -41,17 +41,17 @@ module _ (len : ℕ) (w : List ℕ) (n : ℕ) (e : List ℕ) (m : ℕ) (ids t : 
       }
 
   module _ (i : Indexed w n ids t) (sums : List ℕ) (r : Bool) (h : HeldAll len w n e m sums r) where
-    pub wrong-escrow : not r ≡ true → false ≡ partiesRight len w n e m
-    unfolding partiesRight
-    wrong-escrow z =
-        let x : every m (λ i. all (escrowTests (parties len w n e m) i)) ≡ false = sym h.right ∙ not-true r z in
-        rw (indexed-apart w n ids t i, x)
+    pub wrong_escrow : not r ≡ true → false ≡ parties_right len w n e m
+    unfolding parties_right
+    wrong_escrow z =
+        let x : every m (λ i. all (escrow_tests (parties len w n e m) i)) ≡ false = sym h.right ∙ not-true r z in
+        rw (indexed_apart w n ids t i, x)
 
-    pub locked-all : not r ≡ false → (b : Bool) → b ≡ every n (lockedIs w sums) → b ≡ partiesRight len w n e m
-    unfolding partiesRight
-    locked-all z b q =
-        let x : every m (λ i. all (escrowTests (parties len w n e m) i)) ≡ true = sym h.right ∙ not-false r z in
-        let y : every n (lockedIs w sums) ≡ every n (λ i. eqb (word w WALLET-LEN i LOCKED) (held_of len w e m i)) =
-        every-ext n (lockedIs w sums) (λ i. eqb (word w WALLET-LEN i LOCKED) (held_of len w e m i))
-        (λ i l. ap (eqb (word w WALLET-LEN i LOCKED)) ((h.held (not-false r z)).sum i l)) in
-        rw (indexed-apart w n ids t i, x) (q ∙ y)
+    pub locked_all : not r ≡ false → (b : Bool) → b ≡ every n (locked_is w sums) → b ≡ parties_right len w n e m
+    unfolding parties_right
+    locked_all z b q =
+        let x : every m (λ i. all (escrow_tests (parties len w n e m) i)) ≡ true = sym h.right ∙ not-false r z in
+        let y : every n (locked_is w sums) ≡ every n (λ i. eqb (word w WALLET_LEN i LOCKED) (held_of len w e m i)) =
+        every_ext n (locked_is w sums) (λ i. eqb (word w WALLET_LEN i LOCKED) (held_of len w e m i))
+        (λ i l. ap (eqb (word w WALLET_LEN i LOCKED)) ((h.held (not-false r z)).sum i l)) in
+        rw (indexed_apart w n ids t i, x) (q ∙ y)

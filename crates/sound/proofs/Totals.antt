@@ -6,32 +6,32 @@ use Prim.Native.Nat.{ℕ, ◌+◌, ◌≤◌, ◌<◌}
 use native.Mathlib.Omega.{arith}
 use lib.Dec.{eqb, leb}
 use borrow.Author.Tests.{eq-eqb, ne_eqb, eqb-true, eqb-false, le-leb, lt-leb}
-use Rattle.rules.specs.Limits.{WALLET-LEN, MAX-GRANTED-MICRO, BALANCE, LOCKED}
+use Rattle.rules.specs.Limits.{WALLET_LEN, MAX_GRANTED_MICRO, BALANCE, LOCKED}
 use Rattle.rules.specs.Table.{word, sum}
 use Rattle.rules.specs.Sound.{credits}
-use Rattle.rules.proofs.Bools.{and-none-fst, and-none-snd}
-use Rattle.rules.proofs.Counts.{sum_step, sum-part}
-use Rattle.sound.specs.Parts.{walletsIn}
+use Rattle.rules.proofs.Bools.{and_none_fst, and_none_snd}
+use Rattle.rules.proofs.Counts.{sum_step, sum_part}
+use Rattle.sound.specs.Parts.{wallets_in}
 
 -- the credits of wallet i
 abbrev pub both : List ℕ → ℕ → ℕ
-both w i = word w WALLET-LEN i BALANCE + word w WALLET-LEN i LOCKED
+both w i = word w WALLET_LEN i BALANCE + word w WALLET_LEN i LOCKED
 
 module _ (w : List ℕ) (n granted : ℕ) where
-  pub granted-more : MAX-GRANTED-MICRO < granted → false ≡ (eqb (credits (walletsIn w n)) granted && leb granted MAX-GRANTED-MICRO)
-  granted-more h = sym (and-none-snd (eqb (credits (walletsIn w n)) granted) (leb granted MAX-GRANTED-MICRO) (lt-leb _ _ h))
+  pub granted_more : MAX_GRANTED_MICRO < granted → false ≡ (eqb (credits (wallets_in w n)) granted && leb granted MAX_GRANTED_MICRO)
+  granted_more h = sym (and_none_snd (eqb (credits (wallets_in w n)) granted) (leb granted MAX_GRANTED_MICRO) (lt-leb _ _ h))
 
   -- a row below n takes the sum past what was granted
-  pub credits-more : (i : ℕ) → i < n → granted < sum i (both w) + both w i → false ≡ (eqb (credits (walletsIn w n)) granted && leb granted MAX-GRANTED-MICRO)
+  pub credits_more : (i : ℕ) → i < n → granted < sum i (both w) + both w i → false ≡ (eqb (credits (wallets_in w n)) granted && leb granted MAX_GRANTED_MICRO)
   unfolding credits
-  credits-more i h o =
-      sym (and-none-fst (eqb (sum n (both w)) granted) (leb granted MAX-GRANTED-MICRO)
-      (ne_eqb (sum n (both w)) granted (omega (arith, sum_step i (both w), sum-part (i + 1) n (both w) (omega arith)))))
+  credits_more i h o =
+      sym (and_none_fst (eqb (sum n (both w)) granted) (leb granted MAX_GRANTED_MICRO)
+      (ne_eqb (sum n (both w)) granted (omega (arith, sum_step i (both w), sum_part (i + 1) n (both w) (omega arith)))))
 
-  pub credits-left : (left : ℕ) → left + sum n (both w) ≡ granted → granted ≤ MAX-GRANTED-MICRO
-      → eqb left 0 ≡ (eqb (credits (walletsIn w n)) granted && leb granted MAX-GRANTED-MICRO)
+  pub credits_left : (left : ℕ) → left + sum n (both w) ≡ granted → granted ≤ MAX_GRANTED_MICRO
+      → eqb left 0 ≡ (eqb (credits (wallets_in w n)) granted && leb granted MAX_GRANTED_MICRO)
   unfolding credits
-  credits-left left e g = rw (le-leb _ _ g, and-true) (go (eqb left 0) refl)
+  credits_left left e g = rw (le-leb _ _ g, and-true) (go (eqb left 0) refl)
     where
       go : (b : Bool) → eqb left 0 ≡ b → b ≡ eqb (sum n (both w)) granted
       go true z = let y : left ≡ 0 = eqb-true left 0 z in sym (eq-eqb (sum n (both w)) granted (omega arith))

@@ -5,13 +5,13 @@ use mathlib.Core.List.{List}
 use Prim.Native.Nat.{ℕ}
 use lib.Dec.{eqb, leb}
 use borrow.Author.Tests.{not-true, not-false}
-use Rattle.rules.specs.Limits.{GRANTED, MAX-GRANTED-MICRO, ID, LOCKED}
+use Rattle.rules.specs.Limits.{GRANTED, MAX_GRANTED_MICRO, ID, LOCKED}
 use Rattle.rules.specs.Table.{all, every, distinct, sum}
-use Rattle.rules.specs.Ledger.{ledgerOf, head, wallet, walletCount, escrowCount, receiptCount, entryCount}
+use Rattle.rules.specs.Ledger.{ledger_of, head, wallet, wallet_count, escrow_count, receipt_count, entry_count}
 use Rattle.rules.specs.declared.Edition.{Edition}
-use Rattle.rules.specs.Sound.{headerTests, walletTests, escrowTests, receiptTests, entryTests, heldIn, credits, sound}
-use Rattle.rules.proofs.Bools.{and-none-fst, and-none-snd}
-use Rattle.sound.specs.Parts.{walletsIn, receiptsIn, entriesIn, partiesRight}
+use Rattle.rules.specs.Sound.{header_tests, wallet_tests, escrow_tests, receipt_tests, entry_tests, held_in, credits, sound}
+use Rattle.rules.proofs.Bools.{and_none_fst, and_none_snd}
+use Rattle.sound.specs.Parts.{wallets_in, receipts_in, entries_in, parties_right}
 
 -- the order of the passes and that of the definition
 reorder : (w t d e l r j : Bool) → w && (t && ((d && (e && l)) && (r && j))) ≡ w && (d && (e && (r && (j && (l && t)))))
@@ -24,75 +24,75 @@ reorder true true true true true r j = simp and-true
 
 -- the one of five that fails, each where those before it hold or not
 module _ (w t p r j s : Bool) (e : w && (t && (p && (r && j))) ≡ s) where
-  fail-1 : w ≡ false → false ≡ s
-  fail-1 x = sym (and-none-fst w (t && (p && (r && j))) x) ∙ e
+  fail_1 : w ≡ false → false ≡ s
+  fail_1 x = sym (and_none_fst w (t && (p && (r && j))) x) ∙ e
 
-  fail-2 : t ≡ false → false ≡ s
-  fail-2 x = sym (and-none-snd w (t && (p && (r && j))) (and-none-fst t (p && (r && j)) x)) ∙ e
+  fail_2 : t ≡ false → false ≡ s
+  fail_2 x = sym (and_none_snd w (t && (p && (r && j))) (and_none_fst t (p && (r && j)) x)) ∙ e
 
-  fail-3 : p ≡ false → false ≡ s
-  fail-3 x = sym (and-none-snd w (t && (p && (r && j))) (and-none-snd t (p && (r && j)) (and-none-fst p (r && j) x))) ∙ e
+  fail_3 : p ≡ false → false ≡ s
+  fail_3 x = sym (and_none_snd w (t && (p && (r && j))) (and_none_snd t (p && (r && j)) (and_none_fst p (r && j) x))) ∙ e
 
-  fail-4 : r ≡ false → false ≡ s
-  fail-4 x =
-      sym (and-none-snd w (t && (p && (r && j))) (and-none-snd t (p && (r && j)) (and-none-snd p (r && j) (and-none-fst r j x)))) ∙ e
+  fail_4 : r ≡ false → false ≡ s
+  fail_4 x =
+      sym (and_none_snd w (t && (p && (r && j))) (and_none_snd t (p && (r && j)) (and_none_snd p (r && j) (and_none_fst r j x)))) ∙ e
 
-  last-5 : w ≡ true → t ≡ true → p ≡ true → r ≡ true → j ≡ s
-  last-5 a b c d = sym (rw (a, b, c, d)) ∙ e
+  last_5 : w ≡ true → t ≡ true → p ≡ true → r ≡ true → j ≡ s
+  last_5 a b c d = sym (rw (a, b, c, d)) ∙ e
 
 module _ (ed : Edition) (h w e r j : List ℕ) where
-  pub no_header : (b : Bool) → b ≡ all (headerTests (ledgerOf ed h w e r j)) → not b ≡ true → false ≡ sound (ledgerOf ed h w e r j)
+  pub no_header : (b : Bool) → b ≡ all (header_tests (ledger_of ed h w e r j)) → not b ≡ true → false ≡ sound (ledger_of ed h w e r j)
   unfolding sound
-  no_header b x z = let y : all (headerTests (ledgerOf ed h w e r j)) ≡ false = sym x ∙ not-true b z in rw y
+  no_header b x z = let y : all (header_tests (ledger_of ed h w e r j)) ≡ false = sym x ∙ not-true b z in rw y
 
   -- what each pass answers for
   abbrev W : Bool
-  W = every (walletCount (ledgerOf ed h w e r j)) (λ i. all (walletTests (walletsIn w (walletCount (ledgerOf ed h w e r j))) i))
+  W = every (wallet_count (ledger_of ed h w e r j)) (λ i. all (wallet_tests (wallets_in w (wallet_count (ledger_of ed h w e r j))) i))
 
   abbrev T : Bool
   T =
-      eqb (credits (walletsIn w (walletCount (ledgerOf ed h w e r j)))) (head (ledgerOf ed h w e r j) GRANTED)
-      && leb (head (ledgerOf ed h w e r j) GRANTED) MAX-GRANTED-MICRO
+      eqb (credits (wallets_in w (wallet_count (ledger_of ed h w e r j)))) (head (ledger_of ed h w e r j) GRANTED)
+      && leb (head (ledger_of ed h w e r j) GRANTED) MAX_GRANTED_MICRO
 
   abbrev P : Bool
-  P = partiesRight ed.escrow w (walletCount (ledgerOf ed h w e r j)) e (escrowCount (ledgerOf ed h w e r j))
+  P = parties_right ed.escrow w (wallet_count (ledger_of ed h w e r j)) e (escrow_count (ledger_of ed h w e r j))
 
   -- its three tests
   abbrev D : Bool
-  D = distinct (walletCount (ledgerOf ed h w e r j)) (λ i. wallet (ledgerOf ed h w e r j) i ID)
+  D = distinct (wallet_count (ledger_of ed h w e r j)) (λ i. wallet (ledger_of ed h w e r j) i ID)
 
   abbrev E : Bool
-  E = every (escrowCount (ledgerOf ed h w e r j)) (λ i. all (escrowTests (ledgerOf ed h w e r j) i))
+  E = every (escrow_count (ledger_of ed h w e r j)) (λ i. all (escrow_tests (ledger_of ed h w e r j) i))
 
   abbrev K : Bool
   K =
-      every (walletCount (ledgerOf ed h w e r j))
-      (λ i. eqb (wallet (ledgerOf ed h w e r j) i LOCKED) (sum (escrowCount (ledgerOf ed h w e r j)) (heldIn (ledgerOf ed h w e r j) (wallet (ledgerOf ed h w e r j) i ID))))
+      every (wallet_count (ledger_of ed h w e r j))
+      (λ i. eqb (wallet (ledger_of ed h w e r j) i LOCKED) (sum (escrow_count (ledger_of ed h w e r j)) (held_in (ledger_of ed h w e r j) (wallet (ledger_of ed h w e r j) i ID))))
 
   abbrev R : Bool
-  R = every (receiptCount (ledgerOf ed h w e r j)) (λ i. all (receiptTests (receiptsIn ed.escrow e (escrowCount (ledgerOf ed h w e r j)) r) i))
+  R = every (receipt_count (ledger_of ed h w e r j)) (λ i. all (receipt_tests (receipts_in ed.escrow e (escrow_count (ledger_of ed h w e r j)) r) i))
 
   abbrev J : Bool
-  J = every (entryCount (ledgerOf ed h w e r j)) (λ i. all (entryTests (entriesIn j) i))
+  J = every (entry_count (ledger_of ed h w e r j)) (λ i. all (entry_tests (entries_in j) i))
 
-  module _ (y : all (headerTests (ledgerOf ed h w e r j)) ≡ true) where
-    whole : W && (T && (P && (R && J))) ≡ sound (ledgerOf ed h w e r j)
-    unfolding sound credits heldIn partiesRight
+  module _ (y : all (header_tests (ledger_of ed h w e r j)) ≡ true) where
+    whole : W && (T && (P && (R && J))) ≡ sound (ledger_of ed h w e r j)
+    unfolding sound credits held_in parties_right
     whole = rw y (reorder W T D E K R J)
 
-    pub no-wallets : (b : Bool) → b ≡ W → not b ≡ true → false ≡ sound (ledgerOf ed h w e r j)
-    no-wallets b x z = fail-1 W T P R J _ whole (sym x ∙ not-true b z)
+    pub no_wallets : (b : Bool) → b ≡ W → not b ≡ true → false ≡ sound (ledger_of ed h w e r j)
+    no_wallets b x z = fail_1 W T P R J _ whole (sym x ∙ not-true b z)
 
-    pub no-total : (b : Bool) → b ≡ T → not b ≡ true → false ≡ sound (ledgerOf ed h w e r j)
-    no-total b x z = fail-2 W T P R J _ whole (sym x ∙ not-true b z)
+    pub no_total : (b : Bool) → b ≡ T → not b ≡ true → false ≡ sound (ledger_of ed h w e r j)
+    no_total b x z = fail_2 W T P R J _ whole (sym x ∙ not-true b z)
 
-    pub no-parties : (b : Bool) → b ≡ P → not b ≡ true → false ≡ sound (ledgerOf ed h w e r j)
-    no-parties b x z = fail-3 W T P R J _ whole (sym x ∙ not-true b z)
+    pub no_parties : (b : Bool) → b ≡ P → not b ≡ true → false ≡ sound (ledger_of ed h w e r j)
+    no_parties b x z = fail_3 W T P R J _ whole (sym x ∙ not-true b z)
 
-    pub no-receipts : (b : Bool) → b ≡ R → not b ≡ true → false ≡ sound (ledgerOf ed h w e r j)
-    no-receipts b x z = fail-4 W T P R J _ whole (sym x ∙ not-true b z)
+    pub no_receipts : (b : Bool) → b ≡ R → not b ≡ true → false ≡ sound (ledger_of ed h w e r j)
+    no_receipts b x z = fail_4 W T P R J _ whole (sym x ∙ not-true b z)
 
-    pub the-entries : (a b c d f : Bool) → a ≡ W → not a ≡ false → b ≡ T → not b ≡ false → c ≡ P → not c ≡ false → d ≡ R → not d ≡ false
-        → f ≡ J → f ≡ sound (ledgerOf ed h w e r j)
-    the-entries a b c d f x k y l z m u n v =
-        v ∙ last-5 W T P R J _ whole (sym x ∙ not-false a k) (sym y ∙ not-false b l) (sym z ∙ not-false c m) (sym u ∙ not-false d n)
+    pub the_entries : (a b c d f : Bool) → a ≡ W → not a ≡ false → b ≡ T → not b ≡ false → c ≡ P → not c ≡ false → d ≡ R → not d ≡ false
+        → f ≡ J → f ≡ sound (ledger_of ed h w e r j)
+    the_entries a b c d f x k y l z m u n v =
+        v ∙ last_5 W T P R J _ whole (sym x ∙ not-false a k) (sym y ∙ not-false b l) (sym z ∙ not-false c m) (sym u ∙ not-false d n)

@@ -1,10 +1,10 @@
 // Escrows: each by itself, its two wallets, and each wallet's locked as the sum of its open escrows.
 ghost use Rattle.std.specs.Prelude.{◌≡◌, true, cond, ◌+◌, ◌*◌, ◌≤◌, eqb, length};
-ghost use Rattle.rules.specs.Limits.{ESCROW-LEN, WALLET-LEN, MAX-WALLETS, IS-OPEN, ESCROW-STATE, ESCROW-AMOUNT};
+ghost use Rattle.rules.specs.Limits.{ESCROW_LEN, WALLET_LEN, MAX_WALLETS, IS_OPEN, ESCROW_STATE, ESCROW_AMOUNT};
 ghost use Rattle.rules.specs.Table.{word, all, every};
-ghost use Rattle.rules.specs.Sound.{escrowAloneTests};
+ghost use Rattle.rules.specs.Sound.{escrow_alone_tests};
 ghost use Rattle.index.specs.Index.{Indexed};
-ghost use Rattle.sound.specs.Parts.{parties, Tables, Held, HeldAll, lockedIs, partiesRight};
+ghost use Rattle.sound.specs.Parts.{parties, Tables, Held, HeldAll, locked_is, parties_right};
 
 use index::{NUMBERS, PLACES};
 use rules::limits::{
@@ -14,8 +14,8 @@ use rules::limits::{
 
 // What an escrow's own row shows.
 fn escrow_right(e: &[u64], len: usize, k: usize) -> bool
-    requires { (k * len + len ≤ length e.now) × (ESCROW-LEN ≤ len) }
-    ensures { result ≡ all (escrowAloneTests (parties len e.now 0 e.now 0) k) }
+    requires { (k * len + len ≤ length e.now) × (ESCROW_LEN ≤ len) }
+    ensures { result ≡ all (escrow_alone_tests (parties len e.now 0 e.now 0) k) }
 {
     let at = k * len;
     let amount = e[at + ESCROW_AMOUNT];
@@ -30,8 +30,8 @@ fn escrow_right(e: &[u64], len: usize, k: usize) -> bool
 
 // What an escrow holds of its sender.
 fn held_in(e: &[u64], len: usize, k: usize) -> u64
-    requires { (k * len + len ≤ length e.now) × (ESCROW-LEN ≤ len) }
-    ensures { result ≡ cond (eqb (word e.now len k ESCROW-STATE) IS-OPEN) (word e.now len k ESCROW-AMOUNT) 0 }
+    requires { (k * len + len ≤ length e.now) × (ESCROW_LEN ≤ len) }
+    ensures { result ≡ cond (eqb (word e.now len k ESCROW_STATE) IS_OPEN) (word e.now len k ESCROW_AMOUNT) 0 }
 {
     if e[k * len + ESCROW_STATE] == IS_OPEN {
         e[k * len + ESCROW_AMOUNT]
@@ -72,8 +72,8 @@ fn hold_all(
 
 // Whether each wallet's locked is its sum.
 fn locked_right(w: &[u64], n: usize, sums: &[u64; NUMBERS]) -> bool
-    requires { (n * WALLET-LEN ≤ length w.now) × (n ≤ MAX-WALLETS) }
-    ensures { result ≡ every n (lockedIs w.now sums.now) }
+    requires { (n * WALLET_LEN ≤ length w.now) × (n ≤ MAX_WALLETS) }
+    ensures { result ≡ every n (locked_is w.now sums.now) }
 {
     let mut i: usize = 0;
     while i < n {
@@ -89,7 +89,7 @@ fn locked_right(w: &[u64], n: usize, sums: &[u64; NUMBERS]) -> bool
 // escrows hold.
 pub fn parties_right(w: &[u64], n: usize, e: &[u64], len: usize, m: usize) -> bool
     requires { Tables len w.now n e.now m }
-    ensures { result ≡ partiesRight len w.now n e.now m }
+    ensures { result ≡ parties_right len w.now n e.now m }
 {
     let mut ids = [0u64; NUMBERS];
     index::copy_ids(w, n, &mut ids);

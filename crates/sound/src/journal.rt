@@ -1,9 +1,9 @@
 // Journal rows: a time, and an amount for transfers and opened escrows.
 ghost use Rattle.std.specs.Prelude.{◌≡◌, ◌+◌, ◌*◌, ◌≤◌, length};
-ghost use Rattle.rules.specs.Limits.{JOURNAL-LEN};
+ghost use Rattle.rules.specs.Limits.{JOURNAL_LEN};
 ghost use Rattle.rules.specs.Table.{all, every};
-ghost use Rattle.rules.specs.Sound.{entryTests};
-ghost use Rattle.sound.specs.Parts.{entriesIn};
+ghost use Rattle.rules.specs.Sound.{entry_tests};
+ghost use Rattle.sound.specs.Parts.{entries_in};
 
 use rules::limits::{
     ENTRY_AMOUNT, JOURNAL_LEN, LAST_TIME_MS, MAX_AMOUNT_MICRO, OPERATION, SETTLED_AT,
@@ -15,8 +15,8 @@ const TRANSFER: u64 = rules::limits::TRANSFER as u64;
 const OPEN: u64 = rules::limits::OPEN as u64;
 
 fn entry_right(j: &[u64], k: usize) -> bool
-    requires { k * JOURNAL-LEN + JOURNAL-LEN ≤ length j.now }
-    ensures { result ≡ all (entryTests (entriesIn j.now) k) }
+    requires { k * JOURNAL_LEN + JOURNAL_LEN ≤ length j.now }
+    ensures { result ≡ all (entry_tests (entries_in j.now) k) }
 {
     let at = k * JOURNAL_LEN;
     let op = j[at + OPERATION];
@@ -26,8 +26,8 @@ fn entry_right(j: &[u64], k: usize) -> bool
 }
 
 pub fn entries_right(j: &[u64], q: usize) -> bool
-    requires { q * JOURNAL-LEN ≤ length j.now }
-    ensures { result ≡ every q (λ i. all (entryTests (entriesIn j.now) i)) }
+    requires { q * JOURNAL_LEN ≤ length j.now }
+    ensures { result ≡ every q (λ i. all (entry_tests (entries_in j.now) i)) }
 {
     let mut k: usize = 0;
     while k < q {

@@ -3,10 +3,10 @@
 
 ghost use Rattle.std.specs.Prelude.{◌≡◌, true, ◌≤◌, length};
 ghost use Rattle.rules.specs.Table.{all};
-ghost use Rattle.rules.specs.Ledger.{Sized, lengthsRight};
+ghost use Rattle.rules.specs.Ledger.{Sized, lengths_right};
 ghost use Rattle.rules.specs.Moments.{tables, lent};
-ghost use Rattle.rules.specs.Sound.{headerTests, sound};
-ghost use Rattle.rules.specs.Limits.{HEADER-LEN, ESCROW-LEN};
+ghost use Rattle.rules.specs.Sound.{header_tests, sound};
+ghost use Rattle.rules.specs.Limits.{HEADER_LEN, ESCROW_LEN};
 
 use rules::Edition;
 use rules::limits::{
@@ -28,8 +28,8 @@ fn header_right(
     receipts: &[u64],
     journal: &[u64],
 ) -> bool
-    requires { (HEADER-LEN ≤ length header.now) × (ESCROW-LEN ≤ edition.escrow) }
-    ensures { result ≡ all (headerTests (lent edition header wallets escrows receipts journal).entry) }
+    requires { (HEADER_LEN ≤ length header.now) × (ESCROW_LEN ≤ edition.escrow) }
+    ensures { result ≡ all (header_tests (lent edition header wallets escrows receipts journal).entry) }
 {
     (header[EDITION] == edition.number)
         & ((header[SYSTEM_FROZEN] <= 1)
@@ -49,7 +49,7 @@ pub fn is_sound(
     receipts: &[u64],
     journal: &[u64],
 ) -> bool
-    requires { (lengthsRight (tables edition header wallets escrows receipts journal) ≡ true) × Sized edition }
+    requires { (lengths_right (tables edition header wallets escrows receipts journal) ≡ true) × Sized edition }
     ensures { result ≡ sound (lent edition header wallets escrows receipts journal).entry }
 {
     if !header_right(edition, header, wallets, escrows, receipts, journal) {

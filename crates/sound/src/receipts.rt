@@ -1,9 +1,9 @@
 // Receipts: a link, times, a flag, a state.
 ghost use Rattle.std.specs.Prelude.{◌≡◌, ◌+◌, ◌-◌, ◌*◌, ◌≤◌, length};
-ghost use Rattle.rules.specs.Limits.{ESCROW-LEN, RECEIPT-LEN};
+ghost use Rattle.rules.specs.Limits.{ESCROW_LEN, RECEIPT_LEN};
 ghost use Rattle.rules.specs.Table.{all, every};
-ghost use Rattle.rules.specs.Sound.{linkRight, receiptTests};
-ghost use Rattle.sound.specs.Parts.{receiptsIn};
+ghost use Rattle.rules.specs.Sound.{link_right, receipt_tests};
+ghost use Rattle.sound.specs.Parts.{receipts_in};
 
 use rules::EscrowNumber;
 use rules::limits::{
@@ -24,8 +24,8 @@ fn row_at(number: EscrowNumber) -> usize
 
 // A link is 0, or a written escrow from the requester to the provider.
 fn link_right(e: &[u64], len: usize, m: usize, r: &[u64], k: usize) -> bool
-    requires { (m * len ≤ length e.now) × (len ≤ length e.now) × (k * RECEIPT-LEN + RECEIPT-LEN ≤ length r.now) × (ESCROW-LEN ≤ len) }
-    ensures { result ≡ linkRight (receiptsIn len e.now m r.now) k }
+    requires { (m * len ≤ length e.now) × (len ≤ length e.now) × (k * RECEIPT_LEN + RECEIPT_LEN ≤ length r.now) × (ESCROW_LEN ≤ len) }
+    ensures { result ≡ link_right (receipts_in len e.now m r.now) k }
 {
     let at = k * RECEIPT_LEN;
     let link = r[at + RECEIPT_LINK];
@@ -38,8 +38,8 @@ fn link_right(e: &[u64], len: usize, m: usize, r: &[u64], k: usize) -> bool
 }
 
 fn receipt_right(e: &[u64], len: usize, m: usize, r: &[u64], k: usize) -> bool
-    requires { (m * len ≤ length e.now) × (len ≤ length e.now) × (k * RECEIPT-LEN + RECEIPT-LEN ≤ length r.now) × (ESCROW-LEN ≤ len) }
-    ensures { result ≡ all (receiptTests (receiptsIn len e.now m r.now) k) }
+    requires { (m * len ≤ length e.now) × (len ≤ length e.now) × (k * RECEIPT_LEN + RECEIPT_LEN ≤ length r.now) × (ESCROW_LEN ≤ len) }
+    ensures { result ≡ all (receipt_tests (receipts_in len e.now m r.now) k) }
 {
     let link = link_right(e, len, m, r, k);
     let at = k * RECEIPT_LEN;
@@ -51,8 +51,8 @@ fn receipt_right(e: &[u64], len: usize, m: usize, r: &[u64], k: usize) -> bool
 }
 
 pub fn receipts_right(e: &[u64], len: usize, m: usize, r: &[u64], p: usize) -> bool
-    requires { (m * len ≤ length e.now) × (len ≤ length e.now) × (p * RECEIPT-LEN ≤ length r.now) × (ESCROW-LEN ≤ len) }
-    ensures { result ≡ every p (λ i. all (receiptTests (receiptsIn len e.now m r.now) i)) }
+    requires { (m * len ≤ length e.now) × (len ≤ length e.now) × (p * RECEIPT_LEN ≤ length r.now) × (ESCROW_LEN ≤ len) }
+    ensures { result ≡ every p (λ i. all (receipt_tests (receipts_in len e.now m r.now) i)) }
 {
     let mut k: usize = 0;
     while k < p {

@@ -8,43 +8,43 @@ use native.Mathlib.Omega.{arith}
 use lib.ListN.{get_or, set, length, drop, drop_of_length-le}
 use lib.Seq.{sets, drop-cons}
 use Rattle.rules.specs.Record.{le_bytes, word_bytes}
-use Rattle.rules.proofs.Rows.{sets-append}
+use Rattle.rules.proofs.Rows.{sets_append}
 
 -- the n low bytes of x stored from place p on
-unfoldable pub lePut : ℕ → List ℕ → ℕ → ℕ → List ℕ
-lePut n b p x = sets b p (le_bytes n x)
+unfoldable pub le_put : ℕ → List ℕ → ℕ → ℕ → List ℕ
+le_put n b p x = sets b p (le_bytes n x)
 
-pub le_next : (n : ℕ) (b : List ℕ) (p x : ℕ) → 0 < n → lePut n b p x ≡ lePut (n - 1) (set b p (x % 256)) (p + 1) (x / 256)
-unfolding lePut
+pub le_next : (n : ℕ) (b : List ℕ) (p x : ℕ) → 0 < n → le_put n b p x ≡ le_put (n - 1) (set b p (x % 256)) (p + 1) (x / 256)
+unfolding le_put
 le_next zero b p x h = absurd (not-suc-le-zero h)
 le_next (suc n) b p x h =
     let e : n ≡ suc n - 1 = omega arith in
     ap₂ (λ (q m : ℕ). sets (set b p (x % 256)) q (le_bytes m (x / 256))) (sym (add-one p)) e
 
-pub le-all : (n : ℕ) (b : List ℕ) (p x : ℕ) → lePut n b p x ≡ sets b p (le_bytes n x)
-unfolding lePut
-le-all n b p x = refl
+pub le_all : (n : ℕ) (b : List ℕ) (p x : ℕ) → le_put n b p x ≡ sets b p (le_bytes n x)
+unfolding le_put
+le_all n b p x = refl
 
-pub le-done : (n : ℕ) (b : List ℕ) (p x : ℕ) → n ≤ 0 → lePut n b p x ≡ b
-unfolding lePut
-le-done zero b p x h = refl
-le-done (suc n) b p x h = absurd (not-suc-le-zero h)
+pub le_done : (n : ℕ) (b : List ℕ) (p x : ℕ) → n ≤ 0 → le_put n b p x ≡ b
+unfolding le_put
+le_done zero b p x h = refl
+le_done (suc n) b p x h = absurd (not-suc-le-zero h)
 
 -- the words from the i-th on, stored from place p on
-unfoldable pub wordsPut : List ℕ → ℕ → ℕ → List ℕ → List ℕ
-wordsPut b p i ws = sets b p (word_bytes (drop i ws))
+unfoldable pub words_put : List ℕ → ℕ → ℕ → List ℕ → List ℕ
+words_put b p i ws = sets b p (word_bytes (drop i ws))
 
-pub words-next : (b b' : List ℕ) (p i : ℕ) (ws : List ℕ) → i < length ws → b' ≡ sets b p (le_bytes 8 (get_or ws i 0)) → wordsPut b p i ws ≡ wordsPut b' (p + 8) (i + 1) ws
-unfolding wordsPut
-words-next b b' p i ws h x =
+pub words_next : (b b' : List ℕ) (p i : ℕ) (ws : List ℕ) → i < length ws → b' ≡ sets b p (le_bytes 8 (get_or ws i 0)) → words_put b p i ws ≡ words_put b' (p + 8) (i + 1) ws
+unfolding words_put
+words_next b b' p i ws h x =
     ap (λ (l : List ℕ). sets b p (word_bytes l)) (drop-cons ws i 0 h)
-    ∙ sets-append (le_bytes 8 (get_or ws i 0)) (word_bytes (drop (suc i) ws)) b p
+    ∙ sets_append (le_bytes 8 (get_or ws i 0)) (word_bytes (drop (suc i) ws)) b p
     ∙ ap₂ (λ (l : List ℕ) (k : ℕ). sets l (p + 8) (word_bytes (drop k ws))) (sym x) (sym (add-one i))
 
-pub words-all : (b : List ℕ) (p : ℕ) (ws : List ℕ) → wordsPut b p 0 ws ≡ sets b p (word_bytes ws)
-unfolding wordsPut
-words-all b p ws = refl
+pub words_all : (b : List ℕ) (p : ℕ) (ws : List ℕ) → words_put b p 0 ws ≡ sets b p (word_bytes ws)
+unfolding words_put
+words_all b p ws = refl
 
-pub words-done : (b : List ℕ) (p i : ℕ) (ws : List ℕ) → length ws ≤ i → wordsPut b p i ws ≡ b
-unfolding wordsPut
-words-done b p i ws h = ap (λ (l : List ℕ). sets b p (word_bytes l)) (drop_of_length-le ws h)
+pub words_done : (b : List ℕ) (p i : ℕ) (ws : List ℕ) → length ws ≤ i → words_put b p i ws ≡ b
+unfolding words_put
+words_done b p i ws h = ap (λ (l : List ℕ). sets b p (word_bytes l)) (drop_of_length-le ws h)

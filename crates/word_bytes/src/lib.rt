@@ -3,7 +3,7 @@
 
 ghost use Rattle.std.specs.Prelude.{◌≡◌, ◌+◌, ◌*◌, ◌<◌, ◌≤◌, length};
 ghost use Rattle.std.proofs.lemmas.List.Edits.{sets};
-ghost use Rattle.rules.specs.Record.{leAt, le_bytes, word_bytes};
+ghost use Rattle.rules.specs.Record.{le_at, le_bytes, word_bytes};
 
 fn wide(x: u8) -> u64
     ensures { (result ≡ x) × (result < 256) }
@@ -14,7 +14,7 @@ fn wide(x: u8) -> u64
 // The word whose 8 bytes stand at a place, the lowest first.
 pub fn word_at(b: &[u8], at: usize) -> u64
     requires { at + 8 ≤ length b.now }
-    ensures { result ≡ leAt 8 b.now at }
+    ensures { result ≡ le_at 8 b.now at }
 {
     let p1 = at + 1;
     let p2 = p1 + 1;

@@ -6,44 +6,44 @@ use borrow.Author.Rules.{rules}
 use Rattle.convert.proofs.convert_at.Statement.{statement}
 use Rattle.convert.proofs.convert_at.Tie as tie
 
-add-end : tie.Need-overflow-add-end
-add-end c = search rules
+add_end : tie.Need-overflow-add-end
+add_end c = search rules
 
-sub-read-by : tie.Need-overflow-sub-read-by
-sub-read-by c = search rules
+sub_read_by : tie.Need-overflow-sub-read-by
+sub_read_by c = search rules
 
-part-read-by-start : tie.Need-slice-bounds-read-by-start
-part-read-by-start c = search rules
+part_read_by_start : tie.Need-slice-bounds-read-by-start
+part_read_by_start c = search rules
 
-part-read-by-end : tie.Need-slice-bounds-read-by-end
-part-read-by-end c = search rules
+part_read_by_end : tie.Need-slice-bounds-read-by-end
+part_read_by_end c = search rules
 
-read-by-requires : tie.Need-read-by-requires
-read-by-requires c κs = search rules
+read_by_requires : tie.Need-read-by-requires
+read_by_requires c κs = search rules
 
-new-operation-requires : tie.Need-new-operation-requires
-new-operation-requires c κs = search rules
+new_operation_requires : tie.Need-new-operation-requires
+new_operation_requires c κs = search rules
 
-add-new-flags : tie.Need-overflow-add-new-flags
-add-new-flags c = search rules
+add_new_flags : tie.Need-overflow-add-new-flags
+add_new_flags c = search rules
 
-slice-read-new-flags : tie.Need-slice-read-new-flags
-slice-read-new-flags c = search rules
+slice_read_new_flags : tie.Need-slice-read-new-flags
+slice_read_new_flags c = search rules
 
-new-flags-requires : tie.Need-new-flags-requires
-new-flags-requires c κs = search rules
+new_flags_requires : tie.Need-new-flags-requires
+new_flags_requires c κs = search rules
 
-add-recording : tie.Need-overflow-add-recording
-add-recording c = search rules
+add_recording : tie.Need-overflow-add-recording
+add_recording c = search rules
 
-slice-write-recording : tie.Need-slice-write-recording
-slice-write-recording c = search rules
+slice_write_recording : tie.Need-slice-write-recording
+slice_write_recording c = search rules
 
-add-recording-2 : tie.Need-overflow-add-recording-2
-add-recording-2 c = search rules
+add_recording_2 : tie.Need-overflow-add-recording-2
+add_recording_2 c = search rules
 
-slice-write-recording-2 : tie.Need-slice-write-recording-2
-slice-write-recording-2 c = simp length-set (omega arith)
+slice_write_recording_2 : tie.Need-slice-write-recording-2
+slice_write_recording_2 c = simp length-set (omega arith)
 
 same_length : tie.Need-same-length
 same_length c = search rules
@@ -51,22 +51,22 @@ same_length c = search rules
 returns : tie.Need-returns
 returns c = stored _ _ _ c.before.before.before.read-by.ensures c.before.before.new-operation.ensures c.new-flags.ensures
 
-pub convert-at-spec : {M : Type 1} → statement M
-convert-at-spec =
+pub convert_at_spec : {M : Type 1} → statement M
+convert_at_spec =
     tie.close
     (tie.spec
-    add-end
-    sub-read-by
-    part-read-by-start
-    part-read-by-end
-    read-by-requires
-    new-operation-requires
-    add-new-flags
-    slice-read-new-flags
-    new-flags-requires
-    add-recording
-    slice-write-recording
-    add-recording-2
-    slice-write-recording-2
+    add_end
+    sub_read_by
+    part_read_by_start
+    part_read_by_end
+    read_by_requires
+    new_operation_requires
+    add_new_flags
+    slice_read_new_flags
+    new_flags_requires
+    add_recording
+    slice_write_recording
+    add_recording_2
+    slice_write_recording_2
     same_length
     returns)

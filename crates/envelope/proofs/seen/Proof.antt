@@ -2,73 +2,73 @@
 use Prim.Native.Nat.{◌≤◌}
 use native.Mathlib.Omega.{arith}
 use borrow.Author.Rules.{rules}
-use Rattle.envelope.proofs.Search.{Known, left, seen-begins, seen_next, seen-ends}
+use Rattle.envelope.proofs.Search.{Known, left, seen_begins, seen_next, seen_ends}
 use Rattle.envelope.proofs.seen.Statement.{statement}
 use Rattle.envelope.proofs.seen.Tie as tie
 use Rattle.envelope.proofs.seen.Reads as reads
 use Rattle.envelope.proofs.seen.Lts as lts
 
-abbrev invariant-loop : tie.invariant-loop
-invariant-loop journal n signer nonce found₀ i₀ found i = (i ≤ n) × Known journal signer nonce n found i
+abbrev invariant_loop : tie.invariant-loop
+invariant_loop journal n signer nonce found₀ i₀ found i = (i ≤ n) × Known journal signer nonce n found i
 
-abbrev decreases-loop : tie.decreases-loop
-decreases-loop journal n signer nonce found₀ i₀ found i = i
+abbrev decreases_loop : tie.decreases-loop
+decreases_loop journal n signer nonce found₀ i₀ found i = i
 
-loop-holds : tie.Need-loop-init invariant-loop decreases-loop
-loop-holds c = (omega arith, seen-begins _ _ _ _)
+loop_holds : tie.Need-loop-init invariant_loop decreases_loop
+loop_holds c = (omega arith, seen_begins _ _ _ _)
 
-sub-i : tie.Need-overflow-sub-i invariant-loop decreases-loop
-sub-i c = search (rules, left c.before.loop.i c.before.loop.found c.loop-test.true)
+sub_i : tie.Need-overflow-sub-i invariant_loop decreases_loop
+sub_i c = search (rules, left c.before.loop.i c.before.loop.found c.loop-test.true)
 
-mul-found : tie.Need-overflow-mul-found invariant-loop decreases-loop
-mul-found c = search rules
+mul_found : tie.Need-overflow-mul-found invariant_loop decreases_loop
+mul_found c = search rules
 
-add-found : tie.Need-overflow-add-found invariant-loop decreases-loop
-add-found c = search rules
+add_found : tie.Need-overflow-add-found invariant_loop decreases_loop
+add_found c = search rules
 
-mul-found-2 : tie.Need-overflow-mul-found-2 invariant-loop decreases-loop
-mul-found-2 c = search rules
+mul_found_2 : tie.Need-overflow-mul-found-2 invariant_loop decreases_loop
+mul_found_2 c = search rules
 
-shared-slice-read-found : tie.Need-shared-slice-read-found invariant-loop decreases-loop
-shared-slice-read-found c = search (rules, left c.before.before.loop.i c.before.before.loop.found c.before.loop-test.true)
+shared_slice_read_found : tie.Need-shared-slice-read-found invariant_loop decreases_loop
+shared_slice_read_found c = search (rules, left c.before.before.loop.i c.before.before.loop.found c.before.loop-test.true)
 
-mul-found-3 : tie.Need-overflow-mul-found-3 invariant-loop decreases-loop
-mul-found-3 c = search rules
+mul_found_3 : tie.Need-overflow-mul-found-3 invariant_loop decreases_loop
+mul_found_3 c = search rules
 
-add-found-2 : tie.Need-overflow-add-found-2 invariant-loop decreases-loop
-add-found-2 c = search rules
+add_found_2 : tie.Need-overflow-add-found-2 invariant_loop decreases_loop
+add_found_2 c = search rules
 
-mul-found-4 : tie.Need-overflow-mul-found-4 invariant-loop decreases-loop
-mul-found-4 c = search rules
+mul_found_4 : tie.Need-overflow-mul-found-4 invariant_loop decreases_loop
+mul_found_4 c = search rules
 
-shared-slice-read-found-2 : tie.Need-shared-slice-read-found-2 invariant-loop decreases-loop
-shared-slice-read-found-2 c = search (rules, left c.before.before.before.loop.i c.before.before.before.loop.found c.before.before.loop-test.true)
+shared_slice_read_found_2 : tie.Need-shared-slice-read-found-2 invariant_loop decreases_loop
+shared_slice_read_found_2 c = search (rules, left c.before.before.before.loop.i c.before.before.before.loop.found c.before.before.loop-test.true)
 
-loop-less : tie.Need-loop-smaller invariant-loop decreases-loop
-loop-less c = search (rules, left c.before.before.before.loop.i c.before.before.before.loop.found c.before.before.loop-test.true)
+loop_less : tie.Need-loop-smaller invariant_loop decreases_loop
+loop_less c = search (rules, left c.before.before.before.loop.i c.before.before.before.loop.found c.before.before.loop-test.true)
 
-loop-again : tie.Need-loop-preserved invariant-loop decreases-loop
-loop-again c = (search rules, seen_next _ _ _ _ _ _ c.before.before.loop-test.true c.before.before.before.loop.invariant.1)
+loop_again : tie.Need-loop-preserved invariant_loop decreases_loop
+loop_again c = (search rules, seen_next _ _ _ _ _ _ c.before.before.loop-test.true c.before.before.before.loop.invariant.1)
 
-returns : tie.Need-returns invariant-loop decreases-loop
-returns c = seen-ends _ _ _ _ _ _ c.loop-test.false c.before.loop.invariant.1
+returns : tie.Need-returns invariant_loop decreases_loop
+returns c = seen_ends _ _ _ _ _ _ c.loop-test.false c.before.loop.invariant.1
 
-pub seen-spec : {M : Type 1} → statement M
-seen-spec =
+pub seen_spec : {M : Type 1} → statement M
+seen_spec =
     tie.close
     (tie.spec
-    invariant-loop
-    decreases-loop
-    loop-holds
-    sub-i
-    mul-found
-    add-found
-    mul-found-2
-    shared-slice-read-found
-    mul-found-3
-    add-found-2
-    mul-found-4
-    shared-slice-read-found-2
-    loop-less
-    loop-again
+    invariant_loop
+    decreases_loop
+    loop_holds
+    sub_i
+    mul_found
+    add_found
+    mul_found_2
+    shared_slice_read_found
+    mul_found_3
+    add_found_2
+    mul_found_4
+    shared_slice_read_found_2
+    loop_less
+    loop_again
     returns)

@@ -8,8 +8,8 @@ use Rattle.grid.proofs.row_of.Lts as lts
 returns : tie.Need-returns
 returns c = row_in c.before.args.op c.if1.true
 
-returns-2 : tie.Need-returns-2
-returns-2 c = row_out c.before.args.op c.if1.false
+returns_2 : tie.Need-returns-2
+returns_2 c = row_out c.before.args.op c.if1.false
 
-pub row-of-spec : {M : Type 1} → statement M
-row-of-spec = tie.close (tie.spec returns returns-2)
+pub row_of_spec : {M : Type 1} → statement M
+row_of_spec = tie.close (tie.spec returns returns_2)

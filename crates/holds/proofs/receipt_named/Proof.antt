@@ -9,9 +9,9 @@ returns : tie.Need-returns
 unfolding named
 returns c = rw c.if1.true
 
-returns-2 : tie.Need-returns-2
+returns_2 : tie.Need-returns-2
 unfolding named
-returns-2 c = rw c.if1.false
+returns_2 c = rw c.if1.false
 
-pub receipt-named-spec : {M : Type 1} → statement M
-receipt-named-spec = tie.close (tie.spec returns returns-2)
+pub receipt_named_spec : {M : Type 1} → statement M
+receipt_named_spec = tie.close (tie.spec returns returns_2)

@@ -12,22 +12,22 @@ mul_wide c = search rules
 add_wide : tie.Need-overflow-add-wide
 add_wide c = search rules
 
-add-wide-2 : tie.Need-overflow-add-wide-2
-add-wide-2 c = search rules
+add_wide_2 : tie.Need-overflow-add-wide-2
+add_wide_2 c = search rules
 
-mul-wide-2 : tie.Need-overflow-mul-wide-2
-mul-wide-2 c = search rules
+mul_wide_2 : tie.Need-overflow-mul-wide-2
+mul_wide_2 c = search rules
 
-element-copy-out-wide : tie.Need-element-copy-out-wide
-element-copy-out-wide c = search rules
+element_copy_out_wide : tie.Need-element-copy-out-wide
+element_copy_out_wide c = search rules
 
-wide-requires : tie.Need-wide-requires
-wide-requires c κs = search rules
+wide_requires : tie.Need-wide-requires
+wide_requires c κs = search rules
 
 returns : tie.Need-returns
 returns c = omega (arith, c.wide.ensures, c.before.before.requires.2.most (ROOTS + c.before.before.args.s * BRANCHES + c.before.before.args.y % BRANCHES))
 
-pub branch-spec : {M : Type 1} → statement M
-branch-spec =
+pub branch_spec : {M : Type 1} → statement M
+branch_spec =
     tie.close
-    (tie.spec mul_wide add_wide add-wide-2 mul-wide-2 element-copy-out-wide wide-requires returns)
+    (tie.spec mul_wide add_wide add_wide_2 mul_wide_2 element_copy_out_wide wide_requires returns)

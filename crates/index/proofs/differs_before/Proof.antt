@@ -3,65 +3,65 @@ use native.Mathlib.Omega.{arith}
 use Prim.Native.Nat.{◌≤◌, ◌-◌}
 use mathlib.Core.Path.{◌≡◌, sym, refl, ap, ◌∙◌}
 use Rattle.rules.specs.Table.{every}
-use Rattle.rules.proofs.Counts.{every-none, every-step}
+use Rattle.rules.proofs.Counts.{every_none, every_step}
 use Rattle.index.specs.Index.{differs}
 use borrow.Author.Rules.{rules}
 use Rattle.index.proofs.differs_before.Statement.{statement}
 use Rattle.index.proofs.differs_before.Tie as tie
 
-abbrev invariant-loop : tie.invariant-loop
-invariant-loop ids i x ok₀ j₀ ok j = (j ≤ i) × (ok ≡ every j (differs ids i))
+abbrev invariant_loop : tie.invariant-loop
+invariant_loop ids i x ok₀ j₀ ok j = (j ≤ i) × (ok ≡ every j (differs ids i))
 
-abbrev decreases-loop : tie.decreases-loop
-decreases-loop ids i x ok₀ j₀ ok j = i - j
+abbrev decreases_loop : tie.decreases-loop
+decreases_loop ids i x ok₀ j₀ ok j = i - j
 
-add-x : tie.Need-overflow-add-x invariant-loop decreases-loop
-add-x c = search rules
+add_x : tie.Need-overflow-add-x invariant_loop decreases_loop
+add_x c = search rules
 
-mul-x : tie.Need-overflow-mul-x invariant-loop decreases-loop
-mul-x c = search rules
+mul_x : tie.Need-overflow-mul-x invariant_loop decreases_loop
+mul_x c = search rules
 
-element-copy-out-x : tie.Need-element-copy-out-x invariant-loop decreases-loop
-element-copy-out-x c = search rules
+element_copy_out_x : tie.Need-element-copy-out-x invariant_loop decreases_loop
+element_copy_out_x c = search rules
 
-loop-holds : tie.Need-loop-init invariant-loop decreases-loop
-loop-holds c = (search rules, sym (every-none _))
+loop_holds : tie.Need-loop-init invariant_loop decreases_loop
+loop_holds c = (search rules, sym (every_none _))
 
-add_ok : tie.Need-overflow-add-ok invariant-loop decreases-loop
+add_ok : tie.Need-overflow-add-ok invariant_loop decreases_loop
 add_ok c = search rules
 
-mul_ok : tie.Need-overflow-mul-ok invariant-loop decreases-loop
+mul_ok : tie.Need-overflow-mul-ok invariant_loop decreases_loop
 mul_ok c = search rules
 
-element-copy-out-ok : tie.Need-element-copy-out-ok invariant-loop decreases-loop
-element-copy-out-ok c = search rules
+element_copy_out_ok : tie.Need-element-copy-out-ok invariant_loop decreases_loop
+element_copy_out_ok c = search rules
 
-add-j : tie.Need-overflow-add-j invariant-loop decreases-loop
-add-j c = search rules
+add_j : tie.Need-overflow-add-j invariant_loop decreases_loop
+add_j c = search rules
 
-loop-less : tie.Need-loop-smaller invariant-loop decreases-loop
-loop-less c = search rules
+loop_less : tie.Need-loop-smaller invariant_loop decreases_loop
+loop_less c = search rules
 
-loop-again : tie.Need-loop-preserved invariant-loop decreases-loop
-loop-again c = (search rules, every-step _ _ c.before.before.loop.invariant.1 refl)
+loop_again : tie.Need-loop-preserved invariant_loop decreases_loop
+loop_again c = (search rules, every_step _ _ c.before.before.loop.invariant.1 refl)
 
-returns : tie.Need-returns invariant-loop decreases-loop
+returns : tie.Need-returns invariant_loop decreases_loop
 returns c = c.before.loop.invariant.1 ∙ ap (λ k. every k (differs c.before.before.before.args.ids.now c.before.before.before.args.i)) (omega arith)
 
-pub differs-before-spec : {M : Type 1} → statement M
-differs-before-spec =
+pub differs_before_spec : {M : Type 1} → statement M
+differs_before_spec =
     tie.close
     (tie.spec
-    invariant-loop
-    decreases-loop
-    add-x
-    mul-x
-    element-copy-out-x
-    loop-holds
+    invariant_loop
+    decreases_loop
+    add_x
+    mul_x
+    element_copy_out_x
+    loop_holds
     add_ok
     mul_ok
-    element-copy-out-ok
-    add-j
-    loop-less
-    loop-again
+    element_copy_out_ok
+    add_j
+    loop_less
+    loop_again
     returns)

@@ -2,61 +2,61 @@
 use Prim.Native.Nat.{◌≤◌, ◌-◌}
 use mathlib.Core.Logic.{⊎_elim}
 use Rattle.index.specs.Index.{Hit, STEPS}
-use Rattle.index.proofs.Laws.{hit-none, hit-here, hit-still}
+use Rattle.index.proofs.Laws.{hit_none, hit_here, hit_still}
 use borrow.Author.Rules.{rules}
 use Rattle.index.proofs.far.Statement.{statement}
 use Rattle.index.proofs.far.Tie as tie
 
-abbrev invariant-loop : tie.invariant-loop
-invariant-loop ids t n x s₀ y₀ hit₀ counter₀ s y hit counter = (s ≤ n) × Hit ids n x hit × (counter ≤ STEPS)
+abbrev invariant_loop : tie.invariant-loop
+invariant_loop ids t n x s₀ y₀ hit₀ counter₀ s y hit counter = (s ≤ n) × Hit ids n x hit × (counter ≤ STEPS)
 
-abbrev decreases-loop : tie.decreases-loop
-decreases-loop ids t n x s₀ y₀ hit₀ counter₀ s y hit counter = STEPS - counter
+abbrev decreases_loop : tie.decreases-loop
+decreases_loop ids t n x s₀ y₀ hit₀ counter₀ s y hit counter = STEPS - counter
 
-root-requires : tie.Need-root-requires invariant-loop decreases-loop
-root-requires c κs = search rules
+root_requires : tie.Need-root-requires invariant_loop decreases_loop
+root_requires c κs = search rules
 
-loop-holds : tie.Need-loop-init invariant-loop decreases-loop
-loop-holds c = (search rules, hit-none _ _ _, search rules)
+loop_holds : tie.Need-loop-init invariant_loop decreases_loop
+loop_holds c = (search rules, hit_none _ _ _, search rules)
 
-mul-if1 : tie.Need-overflow-mul-if1 invariant-loop decreases-loop
-mul-if1 c = search rules
+mul_if1 : tie.Need-overflow-mul-if1 invariant_loop decreases_loop
+mul_if1 c = search rules
 
-element-copy-out-if1 : tie.Need-element-copy-out-if1 invariant-loop decreases-loop
-element-copy-out-if1 c = search rules
+element_copy_out_if1 : tie.Need-element-copy-out-if1 invariant_loop decreases_loop
+element_copy_out_if1 c = search rules
 
-branch-requires : tie.Need-branch-requires invariant-loop decreases-loop
-branch-requires c κs = search rules
+branch_requires : tie.Need-branch-requires invariant_loop decreases_loop
+branch_requires c κs = search rules
 
-add-counter : tie.Need-overflow-add-counter invariant-loop decreases-loop
-add-counter c = search rules
+add_counter : tie.Need-overflow-add-counter invariant_loop decreases_loop
+add_counter c = search rules
 
-loop-less : tie.Need-loop-smaller invariant-loop decreases-loop
-loop-less c = search rules
+loop_less : tie.Need-loop-smaller invariant_loop decreases_loop
+loop_less c = search rules
 
-loop-again : tie.Need-loop-preserved invariant-loop decreases-loop
-loop-again c =
+loop_again : tie.Need-loop-preserved invariant_loop decreases_loop
+loop_again c =
     let v = c.before.before.before.before.loop in (
       search rules,
-      ⊎_elim (λ z. hit-here _ _ _ v.s _ v.invariant.0 z.0.taken z.1) (λ z. hit-still _ _ _ v.hit _ v.invariant.1 z.1) c.before.if1.branch,
+      ⊎_elim (λ z. hit_here _ _ _ v.s _ v.invariant.0 z.0.taken z.1) (λ z. hit_still _ _ _ v.hit _ v.invariant.1 z.1) c.before.if1.branch,
       search rules,
     )
 
-returns : tie.Need-returns invariant-loop decreases-loop
+returns : tie.Need-returns invariant_loop decreases_loop
 returns c = c.before.loop.invariant.1
 
-pub far-spec : {M : Type 1} → statement M
-far-spec =
+pub far_spec : {M : Type 1} → statement M
+far_spec =
     tie.close
     (tie.spec
-    invariant-loop
-    decreases-loop
-    root-requires
-    loop-holds
-    mul-if1
-    element-copy-out-if1
-    branch-requires
-    add-counter
-    loop-less
-    loop-again
+    invariant_loop
+    decreases_loop
+    root_requires
+    loop_holds
+    mul_if1
+    element_copy_out_if1
+    branch_requires
+    add_counter
+    loop_less
+    loop_again
     returns)

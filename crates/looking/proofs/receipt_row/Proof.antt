@@ -1,28 +1,28 @@
 -- `looking::receipt_row` meets its contract.
 use native.Mathlib.Omega.{arith}
-use Rattle.rules.specs.Limits.{RECEIPT-LEN, MAX-RECEIPTS, RECEIPTS}
-use Rattle.rules.proofs.Places.{place-within}
+use Rattle.rules.specs.Limits.{RECEIPT_LEN, MAX_RECEIPTS, RECEIPTS}
+use Rattle.rules.proofs.Places.{place_within}
 use Rattle.looking.proofs.Parts.{part_by}
 use borrow.Author.Rules.{rules}
 use Rattle.looking.proofs.receipt_row.Statement.{statement}
 use Rattle.looking.proofs.receipt_row.Tie as tie
 use Rattle.looking.proofs.receipt_row.Reads as reads
 use Rattle.looking.proofs.receipt_row.Lts as lts
-use Rattle.looking.proofs.receipt_place.Reads as receipt-place-reads
-use Rattle.rows.proofs.row_part.Reads as row-part-reads
+use Rattle.looking.proofs.receipt_place.Reads as receipt_place_reads
+use Rattle.rows.proofs.row_part.Reads as row_part_reads
 
-receipt-place-requires : tie.Need-receipt-place-requires
-receipt-place-requires c κs = search rules
+receipt_place_requires : tie.Need-receipt-place-requires
+receipt_place_requires c κs = search rules
 
-row-part-requires : tie.Need-row-part-requires
-row-part-requires c κs =
+row_part_requires : tie.Need-row-part-requires
+row_part_requires c κs =
     let a = c.before.before.before.args in
-    (search rules, omega (arith, place-within a.edition.header RECEIPTS RECEIPT-LEN MAX-RECEIPTS a.header.now a.receipts.now a.n.0))
+    (search rules, omega (arith, place_within a.edition.header RECEIPTS RECEIPT_LEN MAX_RECEIPTS a.header.now a.receipts.now a.n.0))
 
 returns : tie.Need-returns
 returns c =
     let a = c.before.before.before.before.args in
-    part_by RECEIPT-LEN a.receipts.now c.row-part.result.now a.receipts.ptr c.row-part.result.ptr c.before.receipt-place.ensures c.row-part.ensures
+    part_by RECEIPT_LEN a.receipts.now c.row-part.result.now a.receipts.ptr c.row-part.result.ptr c.before.receipt-place.ensures c.row-part.ensures
 
-pub receipt-row-spec : {M : Type 1} → statement M
-receipt-row-spec = tie.close (tie.spec receipt-place-requires row-part-requires returns)
+pub receipt_row_spec : {M : Type 1} → statement M
+receipt_row_spec = tie.close (tie.spec receipt_place_requires row_part_requires returns)

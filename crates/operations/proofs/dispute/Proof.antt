@@ -5,8 +5,8 @@ use borrow.Author.Rules.{rules}
 use Rattle.operations.proofs.dispute.Statement.{statement}
 use Rattle.operations.proofs.dispute.Tie as tie
 
-close-receipt-requires : tie.Need-close-receipt-requires
-close-receipt-requires c κs = search rules
+close_receipt_requires : tie.Need-close-receipt-requires
+close_receipt_requires c κs = search rules
 
 same_length : tie.Need-same-length
 same_length c = search rules
@@ -15,5 +15,5 @@ returns : tie.Need-returns
 unfolding dispute
 returns c = λ K. ap (done 0) (c.before.before.close-receipt.ensures K)
 
-pub dispute-spec : {M : Type 1} → statement M
-dispute-spec = tie.close (tie.spec close-receipt-requires same_length returns)
+pub dispute_spec : {M : Type 1} → statement M
+dispute_spec = tie.close (tie.spec close_receipt_requires same_length returns)

@@ -6,74 +6,74 @@ use Rattle.record.proofs.fields.Statement.{statement}
 use Rattle.record.proofs.fields.Tie as tie
 use Rattle.record.proofs.fields.Reads as reads
 use Rattle.record.proofs.fields.Lts as lts
-use Rattle.word_bytes.proofs.word_at.Reads as word-at-reads
+use Rattle.word_bytes.proofs.word_at.Reads as word_at_reads
 
-shared-slice-read-t3 : tie.Need-shared-slice-read-t3
-shared-slice-read-t3 c = search rules
+shared_slice_read_t3 : tie.Need-shared-slice-read-t3
+shared_slice_read_t3 c = search rules
 
-shared-slice-read-t5 : tie.Need-shared-slice-read-t5
-shared-slice-read-t5 c = search rules
+shared_slice_read_t5 : tie.Need-shared-slice-read-t5
+shared_slice_read_t5 c = search rules
 
-word-at-requires : tie.Need-word-at-requires
-word-at-requires c κs = room c.before.before.before.args.b.now c.before.before.before.requires tt
+word_at_requires : tie.Need-word-at-requires
+word_at_requires c κs = room c.before.before.before.args.b.now c.before.before.before.requires tt
 
-word-at-requires-2 : tie.Need-word-at-requires-2
-word-at-requires-2 c κs = room c.before.before.before.before.args.b.now c.before.before.before.before.requires tt
+word_at_requires_2 : tie.Need-word-at-requires-2
+word_at_requires_2 c κs = room c.before.before.before.before.args.b.now c.before.before.before.before.requires tt
 
-word-at-requires-3 : tie.Need-word-at-requires-3
-word-at-requires-3 c κs = room c.before.before.before.before.before.args.b.now c.before.before.before.before.before.requires tt
+word_at_requires_3 : tie.Need-word-at-requires-3
+word_at_requires_3 c κs = room c.before.before.before.before.before.args.b.now c.before.before.before.before.before.requires tt
 
-word-at-requires-4 : tie.Need-word-at-requires-4
-word-at-requires-4 c κs = room c.before.before.before.before.before.before.args.b.now c.before.before.before.before.before.before.requires tt
+word_at_requires_4 : tie.Need-word-at-requires-4
+word_at_requires_4 c κs = room c.before.before.before.before.before.before.args.b.now c.before.before.before.before.before.before.requires tt
 
-word-at-requires-5 : tie.Need-word-at-requires-5
-word-at-requires-5 c κs = room c.before.before.before.before.before.before.before.args.b.now c.before.before.before.before.before.before.before.requires tt
+word_at_requires_5 : tie.Need-word-at-requires-5
+word_at_requires_5 c κs = room c.before.before.before.before.before.before.before.args.b.now c.before.before.before.before.before.before.before.requires tt
 
-word-at-requires-6 : tie.Need-word-at-requires-6
-word-at-requires-6 c κs = room c.before.before.before.before.before.before.before.before.args.b.now c.before.before.before.before.before.before.before.before.requires tt
+word_at_requires_6 : tie.Need-word-at-requires-6
+word_at_requires_6 c κs = room c.before.before.before.before.before.before.before.before.args.b.now c.before.before.before.before.before.before.before.before.requires tt
 
-word-at-requires-7 : tie.Need-word-at-requires-7
-word-at-requires-7 c κs = room c.before.before.before.before.before.before.before.before.before.args.b.now c.before.before.before.before.before.before.before.before.before.requires tt
+word_at_requires_7 : tie.Need-word-at-requires-7
+word_at_requires_7 c κs = room c.before.before.before.before.before.before.before.before.before.args.b.now c.before.before.before.before.before.before.before.before.before.requires tt
 
-word-at-requires-8 : tie.Need-word-at-requires-8
-word-at-requires-8 c κs = room c.before.before.before.before.before.before.before.before.before.before.args.b.now c.before.before.before.before.before.before.before.before.before.before.requires tt
+word_at_requires_8 : tie.Need-word-at-requires-8
+word_at_requires_8 c κs = room c.before.before.before.before.before.before.before.before.before.before.args.b.now c.before.before.before.before.before.before.before.before.before.before.requires tt
 
-word-at-requires-9 : tie.Need-word-at-requires-9
-word-at-requires-9 c κs = room c.before.before.before.before.before.before.before.before.before.before.before.args.b.now c.before.before.before.before.before.before.before.before.before.before.before.requires tt
+word_at_requires_9 : tie.Need-word-at-requires-9
+word_at_requires_9 c κs = room c.before.before.before.before.before.before.before.before.before.before.before.args.b.now c.before.before.before.before.before.before.before.before.before.before.before.requires tt
 
-word-at-requires-10 : tie.Need-word-at-requires-10
-word-at-requires-10 c κs = room c.before.before.before.before.before.before.before.before.before.before.before.before.args.b.now c.before.before.before.before.before.before.before.before.before.before.before.before.requires tt
+word_at_requires_10 : tie.Need-word-at-requires-10
+word_at_requires_10 c κs = room c.before.before.before.before.before.before.before.before.before.before.before.before.args.b.now c.before.before.before.before.before.before.before.before.before.before.before.before.requires tt
 
-word-at-requires-11 : tie.Need-word-at-requires-11
-word-at-requires-11 c κs = room c.before.before.before.before.before.before.before.before.before.before.before.before.before.args.b.now c.before.before.before.before.before.before.before.before.before.before.before.before.before.requires tt
+word_at_requires_11 : tie.Need-word-at-requires-11
+word_at_requires_11 c κs = room c.before.before.before.before.before.before.before.before.before.before.before.before.before.args.b.now c.before.before.before.before.before.before.before.before.before.before.before.before.before.requires tt
 
-word-at-requires-12 : tie.Need-word-at-requires-12
-word-at-requires-12 c κs = room c.before.before.before.before.before.before.before.before.before.before.before.before.before.before.args.b.now c.before.before.before.before.before.before.before.before.before.before.before.before.before.before.requires tt
+word_at_requires_12 : tie.Need-word-at-requires-12
+word_at_requires_12 c κs = room c.before.before.before.before.before.before.before.before.before.before.before.before.before.before.args.b.now c.before.before.before.before.before.before.before.before.before.before.before.before.before.before.requires tt
 
-word-at-requires-13 : tie.Need-word-at-requires-13
-word-at-requires-13 c κs = room c.before.before.before.before.before.before.before.before.before.before.before.before.before.before.before.args.b.now c.before.before.before.before.before.before.before.before.before.before.before.before.before.before.before.requires tt
+word_at_requires_13 : tie.Need-word-at-requires-13
+word_at_requires_13 c κs = room c.before.before.before.before.before.before.before.before.before.before.before.before.before.before.before.args.b.now c.before.before.before.before.before.before.before.before.before.before.before.before.before.before.before.requires tt
 
 returns : tie.Need-returns
 unfolding decode
 returns c = cc
 
-pub fields-spec : {M : Type 1} → statement M
-fields-spec =
+pub fields_spec : {M : Type 1} → statement M
+fields_spec =
     tie.close
     (tie.spec
-    shared-slice-read-t3
-    shared-slice-read-t5
-    word-at-requires
-    word-at-requires-2
-    word-at-requires-3
-    word-at-requires-4
-    word-at-requires-5
-    word-at-requires-6
-    word-at-requires-7
-    word-at-requires-8
-    word-at-requires-9
-    word-at-requires-10
-    word-at-requires-11
-    word-at-requires-12
-    word-at-requires-13
+    shared_slice_read_t3
+    shared_slice_read_t5
+    word_at_requires
+    word_at_requires_2
+    word_at_requires_3
+    word_at_requires_4
+    word_at_requires_5
+    word_at_requires_6
+    word_at_requires_7
+    word_at_requires_8
+    word_at_requires_9
+    word_at_requires_10
+    word_at_requires_11
+    word_at_requires_12
+    word_at_requires_13
     returns)

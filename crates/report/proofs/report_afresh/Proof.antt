@@ -1,14 +1,14 @@
 -- `report::report_afresh` meets its contract: the lengths decide, then whether a figure was named; otherwise the tables are started, and ready for the
 -- first entry.
-use Rattle.report.proofs.Afresh.{wrong-length, had-stopped, ready-first, read-on}
+use Rattle.report.proofs.Afresh.{wrong_length, had_stopped, ready_first, read_on}
 use borrow.Author.Rules.{rules}
 use Rattle.report.proofs.report_afresh.Statement.{statement}
 use Rattle.report.proofs.report_afresh.Tie as tie
 use Rattle.report.proofs.report_afresh.Reads as reads
 use Rattle.report.proofs.report_afresh.Lts as lts
-use Rattle.editions.proofs.fresh.Reads as fresh-reads
-use Rattle.editions.proofs.lengths_right.Reads as lengths-right-reads
-use Rattle.report.proofs.report_on.Reads as report-on-reads
+use Rattle.editions.proofs.fresh.Reads as fresh_reads
+use Rattle.editions.proofs.lengths_right.Reads as lengths_right_reads
+use Rattle.report.proofs.report_on.Reads as report_on_reads
 
 -- ---- what the stages that were passed have shown; each is found from the one behind it
 
@@ -16,116 +16,116 @@ abbrev start : tie.After-lengths-right → tie.Start
 start c = c.before.before.before.before.before.before.before.before.before.before.before.before
 
 -- the lengths are right, and the tables were started
-abbrev right-stage : tie.After-fresh → tie.Else1
-right-stage c = c.before.before.before.before.before.before.before.before
+abbrev right_stage : tie.After-fresh → tie.Else1
+right_stage c = c.before.before.before.before.before.before.before.before
 
 -- ---- the needs
 
-lengths-right-requires : tie.Need-lengths-right-requires
-lengths-right-requires c κs = search rules
+lengths_right_requires : tie.Need-lengths-right-requires
+lengths_right_requires c κs = search rules
 
 same_length : tie.Need-same-length
 same_length c = search rules
 
-same-length-2 : tie.Need-same-length-2
-same-length-2 c = search rules
+same_length_2 : tie.Need-same-length-2
+same_length_2 c = search rules
 
-same-length-3 : tie.Need-same-length-3
-same-length-3 c = search rules
+same_length_3 : tie.Need-same-length-3
+same_length_3 c = search rules
 
-same-length-4 : tie.Need-same-length-4
-same-length-4 c = search rules
+same_length_4 : tie.Need-same-length-4
+same_length_4 c = search rules
 
-same-length-5 : tie.Need-same-length-5
-same-length-5 c = search rules
+same_length_5 : tie.Need-same-length-5
+same_length_5 c = search rules
 
 returns : tie.Need-returns
 returns c =
     let tested = c.before.before in
-    wrong-length _ tested.lengths-right.ensures _ (start tested).args.recording.now c.before.if1.true
+    wrong_length _ tested.lengths-right.ensures _ (start tested).args.recording.now c.before.if1.true
 
-element-copy-out-if2 : tie.Need-element-copy-out-if2
-element-copy-out-if2 c = search rules
+element_copy_out_if2 : tie.Need-element-copy-out-if2
+element_copy_out_if2 c = search rules
 
-same-length-6 : tie.Need-same-length-6
-same-length-6 c = search rules
+same_length_6 : tie.Need-same-length-6
+same_length_6 c = search rules
 
-same-length-7 : tie.Need-same-length-7
-same-length-7 c = search rules
+same_length_7 : tie.Need-same-length-7
+same_length_7 c = search rules
 
-same-length-8 : tie.Need-same-length-8
-same-length-8 c = search rules
+same_length_8 : tie.Need-same-length-8
+same_length_8 c = search rules
 
-same-length-9 : tie.Need-same-length-9
-same-length-9 c = search rules
+same_length_9 : tie.Need-same-length-9
+same_length_9 c = search rules
 
-same-length-10 : tie.Need-same-length-10
-same-length-10 c = search rules
+same_length_10 : tie.Need-same-length-10
+same_length_10 c = search rules
 
-returns-2 : tie.Need-returns-2
-returns-2 c =
+returns_2 : tie.Need-returns-2
+returns_2 c =
     let tested = c.before.before.before.before in
-    had-stopped _ tested.lengths-right.ensures _ (start tested).args.recording.now c.before.before.before.if1.false c.before.if2.true
+    had_stopped _ tested.lengths-right.ensures _ (start tested).args.recording.now c.before.before.before.if1.false c.before.if2.true
 
-fresh-requires : tie.Need-fresh-requires
-fresh-requires c κs = search rules
+fresh_requires : tie.Need-fresh-requires
+fresh_requires c κs = search rules
 
-report-on-requires : tie.Need-report-on-requires
-report-on-requires c κs =
+report_on_requires : tie.Need-report-on-requires
+report_on_requires c κs =
     let begun = c.before.before.before.before.before.before.before.before.before.before.before.before.before.before.before.before.before.before in
-    let right = right-stage begun in
+    let right = right_stage begun in
     let tested = right.before in (
       (start tested).pre,
-      ready-first _ tested.lengths-right.ensures right.if1.left begun.fresh.ensures (start tested).pre,
+      ready_first _ tested.lengths-right.ensures right.if1.left begun.fresh.ensures (start tested).pre,
       begun.before.before.before.before.before.before.if2.false,
     )
 
-same-length-11 : tie.Need-same-length-11
-same-length-11 c = search rules
+same_length_11 : tie.Need-same-length-11
+same_length_11 c = search rules
 
-same-length-12 : tie.Need-same-length-12
-same-length-12 c = search rules
+same_length_12 : tie.Need-same-length-12
+same_length_12 c = search rules
 
-same-length-13 : tie.Need-same-length-13
-same-length-13 c = search rules
+same_length_13 : tie.Need-same-length-13
+same_length_13 c = search rules
 
-same-length-14 : tie.Need-same-length-14
-same-length-14 c = search rules
+same_length_14 : tie.Need-same-length-14
+same_length_14 c = search rules
 
-same-length-15 : tie.Need-same-length-15
-same-length-15 c = search rules
+same_length_15 : tie.Need-same-length-15
+same_length_15 c = search rules
 
-returns-3 : tie.Need-returns-3
-returns-3 c =
+returns_3 : tie.Need-returns-3
+returns_3 c =
     let done = c.before.before.before.before.before.before.before.before.before.before in
     let begun = done.before.before.before.before.before.before.before.before.before.before.before.before.before.before.before.before.before.before.before in
-    let right = right-stage begun in
+    let right = right_stage begun in
     let tested = right.before in
-    read-on _ tested.lengths-right.ensures _ (start tested).args.recording.now right.if1.left begun.fresh.ensures begun.before.before.before.before.before.before.if2.false done.report-on.ensures
+    read_on _ tested.lengths-right.ensures _ (start tested).args.recording.now right.if1.left begun.fresh.ensures begun.before.before.before.before.before.before.if2.false done.report-on.ensures
 
-pub report-afresh-spec : {M : Type 1} → statement M
-report-afresh-spec =
+pub report_afresh_spec : {M : Type 1} → statement M
+report_afresh_spec =
     tie.close
     (tie.spec
-    lengths-right-requires
+    lengths_right_requires
     same_length
-    same-length-2
-    same-length-3
-    same-length-4
-    same-length-5
+    same_length_2
+    same_length_3
+    same_length_4
+    same_length_5
     returns
-    element-copy-out-if2
-    same-length-6
-    same-length-7
-    same-length-8
-    same-length-9
-    same-length-10
-    returns-2
-    fresh-requires
-    report-on-requires
-    same-length-11
-    same-length-12
-    same-length-13
-    same-length-14
-    same-length-15
-    returns-3)
+    element_copy_out_if2
+    same_length_6
+    same_length_7
+    same_length_8
+    same_length_9
+    same_length_10
+    returns_2
+    fresh_requires
+    report_on_requires
+    same_length_11
+    same_length_12
+    same_length_13
+    same_length_14
+    same_length_15
+    returns_3)

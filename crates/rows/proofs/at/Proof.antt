@@ -7,17 +7,17 @@ use Rattle.rows.proofs.at.Tie as tie
 use Rattle.rows.proofs.at.Reads as reads
 use Rattle.rows.proofs.at.Lts as lts
 
-mul-result : tie.Need-overflow-mul-result
-mul-result c = search rules
+mul_result : tie.Need-overflow-mul-result
+mul_result c = search rules
 
-shared-slice-read-result : tie.Need-shared-slice-read-result
-shared-slice-read-result c = search rules
+shared_slice_read_result : tie.Need-shared-slice-read-result
+shared_slice_read_result c = search rules
 
 returns : tie.Need-returns
 returns c = search rules
 
-returns-2 : tie.Need-returns-2
-returns-2 c = sym (get_or-eq_default c.before.args.t.now 0 c.if1.false)
+returns_2 : tie.Need-returns-2
+returns_2 c = sym (get_or-eq_default c.before.args.t.now 0 c.if1.false)
 
-pub at-spec : {M : Type 1} → statement M
-at-spec = tie.close (tie.spec mul-result shared-slice-read-result returns returns-2)
+pub at_spec : {M : Type 1} → statement M
+at_spec = tie.close (tie.spec mul_result shared_slice_read_result returns returns_2)

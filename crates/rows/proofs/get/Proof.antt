@@ -14,11 +14,11 @@ mul_at c = omega (arith, start c.before.requires.0 c.before.requires.1)
 add_at : tie.Need-overflow-add-at
 add_at c = omega (arith, start c.before.requires.0 c.before.requires.1)
 
-at-requires : tie.Need-at-requires
-at-requires c κs = search rules
+at_requires : tie.Need-at-requires
+at_requires c κs = search rules
 
 returns : tie.Need-returns
 returns c = search rules
 
 pub get_spec : {M : Type 1} → statement M
-get_spec = tie.close (tie.spec mul_at add_at at-requires returns)
+get_spec = tie.close (tie.spec mul_at add_at at_requires returns)

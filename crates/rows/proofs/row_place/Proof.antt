@@ -5,21 +5,21 @@ use Prim.Native.Nat.{◌+◌, ◌-◌, ◌*◌, ◌≤◌}
 use native.Mathlib.Omega.{arith}
 use lib.ListN.{get_or, length}
 use Rattle.rules.specs.Ledger.{written}
-use Rattle.rules.specs.Lookup.{countRight}
-use Rattle.rules.proofs.Places.{row-from-1, row-whole}
-use Rattle.rows.proofs.Part.{row_by, place-there, place_none}
+use Rattle.rules.specs.Lookup.{count_right}
+use Rattle.rules.proofs.Places.{row_from_1, row_whole}
+use Rattle.rows.proofs.Part.{row_by, place_there, place_none}
 use borrow.Author.Rules.{rules}
 use Rattle.rows.proofs.row_place.Statement.{statement}
 use Rattle.rows.proofs.row_place.Tie as tie
 use Rattle.rows.proofs.row_place.Reads as reads
 use Rattle.rows.proofs.row_place.Lts as lts
 use Rattle.rows.proofs.at.Reads as at_reads
-use Rattle.rows.proofs.count_right.Reads as count-right-reads
+use Rattle.rows.proofs.count_right.Reads as count_right_reads
 
 -- row `number` is there, so it has a number from 1 on and ends within the table
 abbrev Asked : tie.Then1 → Type 0
 Asked c = let a = c.before.before.before.before.before.args in
-    countRight a.header-len a.c a.len a.most a.header.now a.t.now && written (get_or a.header.now a.c 0) a.number ≡ true
+    count_right a.header-len a.c a.len a.most a.header.now a.t.now && written (get_or a.header.now a.c 0) a.number ≡ true
 
 there : (c : tie.Then1) → Asked c
 there c =
@@ -29,33 +29,33 @@ there c =
 fits : (c : tie.Then1) → let a = c.before.before.before.before.before.args in (1 ≤ a.number) × ((a.number - 1) * a.len + a.len ≤ length a.t.now)
 fits c =
     let a = c.before.before.before.before.before.args in (
-      row-from-1 a.header-len a.c a.len a.most a.header.now a.t.now a.number (there c),
-      row-whole a.header-len a.c a.len a.most a.header.now a.t.now a.number (there c),
+      row_from_1 a.header-len a.c a.len a.most a.header.now a.t.now a.number (there c),
+      row_whole a.header-len a.c a.len a.most a.header.now a.t.now a.number (there c),
     )
 
-count-right-requires : tie.Need-count-right-requires
-count-right-requires c κs = search rules
+count_right_requires : tie.Need-count-right-requires
+count_right_requires c κs = search rules
 
-at-requires : tie.Need-at-requires
-at-requires c κs = search rules
+at_requires : tie.Need-at-requires
+at_requires c κs = search rules
 
-sub-result : tie.Need-overflow-sub-result
-sub-result c = (fits c).0
+sub_result : tie.Need-overflow-sub-result
+sub_result c = (fits c).0
 
-mul-result : tie.Need-overflow-mul-result
-mul-result c = omega (arith, (fits c).1)
+mul_result : tie.Need-overflow-mul-result
+mul_result c = omega (arith, (fits c).1)
 
 returns : tie.Need-returns
 returns c =
     let a = c.before.before.before.before.before.args in
-    place-there a.header-len a.c a.len a.most a.header.now a.t.now a.number (there c)
+    place_there a.header-len a.c a.len a.most a.header.now a.t.now a.number (there c)
 
-returns-2 : tie.Need-returns-2
-returns-2 c =
+returns_2 : tie.Need-returns-2
+returns_2 c =
     let a = c.before.before.before.before.before.args in
     let e = row_by a.header-len a.c a.len a.most a.header.now a.t.now a.number c.before.before.count-right.ensures c.before.at.ensures c.if1.false in
     place_none a.header-len a.c a.len a.most a.header.now a.t.now a.number e
 
-pub row-place-spec : {M : Type 1} → statement M
-row-place-spec =
-    tie.close (tie.spec count-right-requires at-requires sub-result mul-result returns returns-2)
+pub row_place_spec : {M : Type 1} → statement M
+row_place_spec =
+    tie.close (tie.spec count_right_requires at_requires sub_result mul_result returns returns_2)

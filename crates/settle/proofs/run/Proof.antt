@@ -6,84 +6,84 @@ use lib.ListN.{length}
 use Rattle.settle.proofs.run.Statement.{statement}
 use Rattle.settle.proofs.run.Tie as tie
 
-abbrev invariant-loop : tie.invariant-loop
-invariant-loop header₀ wallets₀ escrows₀ receipts₀ journal₀ ordinal₀ header wallets escrows receipts journal ordinal =
+abbrev invariant_loop : tie.invariant-loop
+invariant_loop header₀ wallets₀ escrows₀ receipts₀ journal₀ ordinal₀ header wallets escrows receipts journal ordinal =
     (length header ≡ length header₀) × ((length wallets ≡ length wallets₀) × ((length escrows ≡ length escrows₀) × ((length receipts ≡ length receipts₀) × (length journal ≡ length journal₀))))
 
-abbrev decreases-loop : tie.decreases-loop
-decreases-loop header₀ wallets₀ escrows₀ receipts₀ journal₀ ordinal₀ header wallets escrows receipts journal ordinal = 18446744073709551615 - ordinal
+abbrev decreases_loop : tie.decreases-loop
+decreases_loop header₀ wallets₀ escrows₀ receipts₀ journal₀ ordinal₀ header wallets escrows receipts journal ordinal = 18446744073709551615 - ordinal
 
-loop-holds : tie.Need-loop-init invariant-loop decreases-loop
-loop-holds c = search rules
+loop_holds : tie.Need-loop-init invariant_loop decreases_loop
+loop_holds c = search rules
 
-step-requires : tie.Need-step-requires invariant-loop decreases-loop
-step-requires c κs = search rules
+step_requires : tie.Need-step-requires invariant_loop decreases_loop
+step_requires c κs = search rules
 
-add-ordinal : tie.Need-overflow-add-ordinal invariant-loop decreases-loop
-add-ordinal c = search rules
+add_ordinal : tie.Need-overflow-add-ordinal invariant_loop decreases_loop
+add_ordinal c = search rules
 
-loop-less : tie.Need-loop-smaller invariant-loop decreases-loop
-loop-less c = search rules
+loop_less : tie.Need-loop-smaller invariant_loop decreases_loop
+loop_less c = search rules
 
-loop-again : tie.Need-loop-preserved invariant-loop decreases-loop
-loop-again c = search rules
+loop_again : tie.Need-loop-preserved invariant_loop decreases_loop
+loop_again c = search rules
 
-same_length : tie.Need-same-length invariant-loop decreases-loop
+same_length : tie.Need-same-length invariant_loop decreases_loop
 same_length c = search rules
 
-same-length-2 : tie.Need-same-length-2 invariant-loop decreases-loop
-same-length-2 c = search rules
+same_length_2 : tie.Need-same-length-2 invariant_loop decreases_loop
+same_length_2 c = search rules
 
-same-length-3 : tie.Need-same-length-3 invariant-loop decreases-loop
-same-length-3 c = search rules
+same_length_3 : tie.Need-same-length-3 invariant_loop decreases_loop
+same_length_3 c = search rules
 
-same-length-4 : tie.Need-same-length-4 invariant-loop decreases-loop
-same-length-4 c = search rules
+same_length_4 : tie.Need-same-length-4 invariant_loop decreases_loop
+same_length_4 c = search rules
 
-same-length-5 : tie.Need-same-length-5 invariant-loop decreases-loop
-same-length-5 c = search rules
+same_length_5 : tie.Need-same-length-5 invariant_loop decreases_loop
+same_length_5 c = search rules
 
-returns : tie.Need-returns invariant-loop decreases-loop
+returns : tie.Need-returns invariant_loop decreases_loop
 returns c = search rules
 
-same-length-6 : tie.Need-same-length-6 invariant-loop decreases-loop
-same-length-6 c = search rules
+same_length_6 : tie.Need-same-length-6 invariant_loop decreases_loop
+same_length_6 c = search rules
 
-same-length-7 : tie.Need-same-length-7 invariant-loop decreases-loop
-same-length-7 c = search rules
+same_length_7 : tie.Need-same-length-7 invariant_loop decreases_loop
+same_length_7 c = search rules
 
-same-length-8 : tie.Need-same-length-8 invariant-loop decreases-loop
-same-length-8 c = search rules
+same_length_8 : tie.Need-same-length-8 invariant_loop decreases_loop
+same_length_8 c = search rules
 
-same-length-9 : tie.Need-same-length-9 invariant-loop decreases-loop
-same-length-9 c = search rules
+same_length_9 : tie.Need-same-length-9 invariant_loop decreases_loop
+same_length_9 c = search rules
 
-same-length-10 : tie.Need-same-length-10 invariant-loop decreases-loop
-same-length-10 c = search rules
+same_length_10 : tie.Need-same-length-10 invariant_loop decreases_loop
+same_length_10 c = search rules
 
-returns-2 : tie.Need-returns-2 invariant-loop decreases-loop
-returns-2 c = search rules
+returns_2 : tie.Need-returns-2 invariant_loop decreases_loop
+returns_2 c = search rules
 
 pub run_spec : {M : Type 1} → statement M
 run_spec =
     tie.close
     (tie.spec
-    invariant-loop
-    decreases-loop
-    loop-holds
-    step-requires
-    add-ordinal
-    loop-less
-    loop-again
+    invariant_loop
+    decreases_loop
+    loop_holds
+    step_requires
+    add_ordinal
+    loop_less
+    loop_again
     same_length
-    same-length-2
-    same-length-3
-    same-length-4
-    same-length-5
+    same_length_2
+    same_length_3
+    same_length_4
+    same_length_5
     returns
-    same-length-6
-    same-length-7
-    same-length-8
-    same-length-9
-    same-length-10
-    returns-2)
+    same_length_6
+    same_length_7
+    same_length_8
+    same_length_9
+    same_length_10
+    returns_2)

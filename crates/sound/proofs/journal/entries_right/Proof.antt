@@ -4,50 +4,50 @@ use mathlib.Core.Path.{◌≡◌, sym, ◌∙◌}
 use mathlib.Core.Bool.{true}
 use borrow.Author.Tests.{not-true, not-false}
 use Rattle.rules.specs.Table.{all, every}
-use Rattle.rules.specs.Sound.{entryTests}
-use Rattle.rules.proofs.Counts.{every-none, every-on, every-fails, every-passed}
-use Rattle.sound.specs.Parts.{entriesIn}
+use Rattle.rules.specs.Sound.{entry_tests}
+use Rattle.rules.proofs.Counts.{every_none, every_on, every_fails, every_passed}
+use Rattle.sound.specs.Parts.{entries_in}
 use borrow.Author.Rules.{rules}
 use Rattle.sound.proofs.journal.entries_right.Statement.{statement}
 use Rattle.sound.proofs.journal.entries_right.Tie as tie
 
-abbrev invariant-loop : tie.invariant-loop
-invariant-loop j q k₀ k = (k ≤ q) × (every k (λ i. all (entryTests (entriesIn j) i)) ≡ true)
+abbrev invariant_loop : tie.invariant-loop
+invariant_loop j q k₀ k = (k ≤ q) × (every k (λ i. all (entry_tests (entries_in j) i)) ≡ true)
 
-abbrev decreases-loop : tie.decreases-loop
-decreases-loop j q k₀ k = q - k
+abbrev decreases_loop : tie.decreases-loop
+decreases_loop j q k₀ k = q - k
 
-loop-holds : tie.Need-loop-init invariant-loop decreases-loop
-loop-holds c = (search rules, every-none _)
+loop_holds : tie.Need-loop-init invariant_loop decreases_loop
+loop_holds c = (search rules, every_none _)
 
-entry-right-requires : tie.Need-entry-right-requires invariant-loop decreases-loop
-entry-right-requires c κs = search rules
+entry_right_requires : tie.Need-entry-right-requires invariant_loop decreases_loop
+entry_right_requires c κs = search rules
 
-returns : tie.Need-returns invariant-loop decreases-loop
-returns c = every-fails _ _ _ (search rules) (sym c.before.entry-right.ensures ∙ not-true _ c.if1.true)
+returns : tie.Need-returns invariant_loop decreases_loop
+returns c = every_fails _ _ _ (search rules) (sym c.before.entry-right.ensures ∙ not-true _ c.if1.true)
 
-add-k : tie.Need-overflow-add-k invariant-loop decreases-loop
-add-k c = search rules
+add_k : tie.Need-overflow-add-k invariant_loop decreases_loop
+add_k c = search rules
 
-loop-less : tie.Need-loop-smaller invariant-loop decreases-loop
-loop-less c = search rules
+loop_less : tie.Need-loop-smaller invariant_loop decreases_loop
+loop_less c = search rules
 
-loop-again : tie.Need-loop-preserved invariant-loop decreases-loop
-loop-again c = (search rules, every-on _ _ c.before.before.before.loop.invariant.1 (sym c.before.entry-right.ensures ∙ not-false _ c.if1.false))
+loop_again : tie.Need-loop-preserved invariant_loop decreases_loop
+loop_again c = (search rules, every_on _ _ c.before.before.before.loop.invariant.1 (sym c.before.entry-right.ensures ∙ not-false _ c.if1.false))
 
-returns-2 : tie.Need-returns-2 invariant-loop decreases-loop
-returns-2 c = every-passed _ _ _ c.before.loop.invariant.0 c.loop-test.false c.before.loop.invariant.1
+returns_2 : tie.Need-returns-2 invariant_loop decreases_loop
+returns_2 c = every_passed _ _ _ c.before.loop.invariant.0 c.loop-test.false c.before.loop.invariant.1
 
-pub entries-right-spec : {M : Type 1} → statement M
-entries-right-spec =
+pub entries_right_spec : {M : Type 1} → statement M
+entries_right_spec =
     tie.close
     (tie.spec
-    invariant-loop
-    decreases-loop
-    loop-holds
-    entry-right-requires
+    invariant_loop
+    decreases_loop
+    loop_holds
+    entry_right_requires
     returns
-    add-k
-    loop-less
-    loop-again
-    returns-2)
+    add_k
+    loop_less
+    loop_again
+    returns_2)
