@@ -6,7 +6,7 @@ ghost use Rattle.std.specs.Prelude.{◌≡◌, ℕ, ◌-◌, ◌<◌, ◌≤◌,
 ghost use Rattle.rules.specs.Limits.{ESCROWS};
 ghost use Rattle.rules.specs.Table.{loop};
 ghost use Rattle.rules.specs.Ledger.{Ledger, outcome};
-ghost use Rattle.rules.specs.Moments.{any, ◌of_edition◌, ◌with_header◌, ◌with_escrows◌, ◌with_receipts◌};
+ghost use Rattle.rules.specs.Moments.{tables, any, ◌of_edition◌, ◌with_header◌, ◌with_escrows◌, ◌with_receipts◌, ◌seeing_header◌, ◌seeing_escrows◌, ◌seeing_receipts◌};
 ghost use Rattle.rules.specs.Settle.{Sweep, sweep_escrow, swept_receipts, swept, settle};
 ghost use Rattle.rules.specs.Report.{adds_of};
 ghost use Rattle.rules.proofs.Good.{Good};
@@ -117,7 +117,7 @@ fn receipt_turns(
     limit: u64,
 ) -> Closed
     requires { Sweeps edition header.now escrows.now receipts.now time × Unmarked marks.old }
-    ensures { (result.rows ≤ limit) × ((K : Ledger) → let L = any K of_edition edition with_header header with_escrows escrows with_receipts receipts in Good L.entry → Receipted L.entry time (limit - result.rows) result.amount (swept_receipts time limit L.entry)) }
+    ensures { (result.rows ≤ limit) × ((K : Ledger) → let L = any K of_edition edition seeing_header header seeing_escrows escrows seeing_receipts receipts in Good L.entry → Receipted L.entry time (limit - result.rows) result.amount (swept_receipts time limit L.entry)) }
 {
     let written = header[RECEIPTS];
     let mut rows = 0;
@@ -164,7 +164,7 @@ fn escrow_turn(edition: Edition, escrows: &[u64], number: EscrowNumber, time: u6
 // them nor after.
 fn escrow_turns(edition: Edition, header: &[u64], escrows: &[u64], time: u64, limit: u64) -> u64
     requires { Expires edition header.now escrows.now time }
-    ensures { (K : Ledger) (S : Sweep) (released : ℕ) → let L = any K of_edition edition with_header header with_escrows escrows in Receipted L.entry time limit released S → Ended L.entry released result (loop (get_or header.now ESCROWS 0) (sweep_escrow time) S).tables }
+    ensures { (K : Ledger) (S : Sweep) (released : ℕ) → let L = any K of_edition edition seeing_header header seeing_escrows escrows in Receipted L.entry time limit released S → Ended L.entry released result (loop (get_or header.now ESCROWS 0) (sweep_escrow time) S).tables }
 {
     let written = header[ESCROWS];
     let mut rows = 0;

@@ -5,7 +5,7 @@
 
 ghost use Rattle.std.specs.Prelude.{◌≡◌, length, replicate};
 ghost use Rattle.rules.specs.Ledger.{Sized, outcome, lengths_right, fresh};
-ghost use Rattle.rules.specs.Moments.{tables, lent};
+ghost use Rattle.rules.specs.Moments.{tables, lent, tables_shown, shown};
 ghost use Rattle.rules.specs.Sound.{Ready};
 ghost use Rattle.rules.specs.Submit.{decided, submit};
 
@@ -25,7 +25,7 @@ pub fn lengths_right(
     journal: &[u64],
 ) -> bool
     requires { Sized edition }
-    ensures { result ≡ lengths_right (lent edition header wallets escrows receipts journal).entry }
+    ensures { result ≡ lengths_right (shown edition header wallets escrows receipts journal).entry }
 {
     let w = rows::table_right(wallets, WALLET_LEN, MAX_WALLETS);
     let e = rows::table_right(escrows, edition.escrow, MAX_ESCROWS);
@@ -83,8 +83,8 @@ pub fn decide(
     journal: &[u64],
     bytes: &[u8],
 ) -> Read
-    requires { Sized edition × Ready (tables edition header wallets escrows receipts journal) }
-    ensures { result ≡ decided (lent edition header wallets escrows receipts journal).entry bytes.now }
+    requires { Sized edition × Ready (tables_shown edition header wallets escrows receipts journal) }
+    ensures { result ≡ decided (shown edition header wallets escrows receipts journal).entry bytes.now }
 {
     let read = record::read_record(bytes);
     if read.number != 0 {

@@ -4,7 +4,7 @@
 ghost use Rattle.std.specs.Prelude.{◌≡◌, ◌*◌, ◌≤◌, ◌<◌, get_or, length};
 ghost use Rattle.rules.specs.Limits.{JOURNAL_LEN, ENTRIES, LAST_TIME_MS, LAST_OPERATION};
 ghost use Rattle.rules.specs.Ledger.{Ledger};
-ghost use Rattle.rules.specs.Moments.{any, ◌with_header◌, ◌with_journal◌};
+ghost use Rattle.rules.specs.Moments.{any, ◌seeing_header◌, ◌seeing_journal◌};
 ghost use Rattle.rules.specs.Refusals.{first, seen_in, envelope_refusals};
 
 use rules::Submission;
@@ -32,7 +32,7 @@ pub fn seen(journal: &[u64], n: usize, signer: u64, nonce: u64) -> bool
 // The first of checks 4 to 11 that holds, or 0. Each condition is worked out, whether or not an earlier one holds.
 pub fn envelope_refusal(header: &[u64], journal: &[u64], s: Submission) -> u64
     requires { (ENTRIES < length header.now) × (get_or header.now ENTRIES 0 * JOURNAL_LEN ≤ length journal.now) × (1 ≤ s.op) × (s.op ≤ LAST_OPERATION) × (s.now ≤ LAST_TIME_MS) × (s.issued ≤ LAST_TIME_MS) }
-    ensures { (K : Ledger) → let L = any K with_header header with_journal journal in result ≡ first (envelope_refusals L.entry s) }
+    ensures { (K : Ledger) → let L = any K seeing_header header seeing_journal journal in result ≡ first (envelope_refusals L.entry s) }
 {
     let clock = header[CLOCK];
     let frozen = header[SYSTEM_FROZEN];

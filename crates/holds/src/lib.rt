@@ -5,7 +5,7 @@ ghost use Rattle.std.specs.Prelude.{◌≡◌, ◌⊎◌, ◌*◌, ◌≤◌, �
 ghost use Rattle.rules.specs.Limits.{WALLET_LEN, MAX_ESCROWS, MAX_RECEIPTS, LAST_TIME_MS, RELEASE, REFUND, CLAIM, REPLY};
 ghost use Rattle.rules.specs.Limits.{WALLETS, ESCROWS, RECEIPTS, ENTRIES};
 ghost use Rattle.rules.specs.Ledger.{Ledger, Sized};
-ghost use Rattle.rules.specs.Moments.{lent, any, ◌of_edition◌, ◌with_header◌, ◌with_escrows◌, ◌with_receipts◌, ◌with_journal◌};
+ghost use Rattle.rules.specs.Moments.{any, ◌of_edition◌, shown, ◌seeing_header◌, ◌seeing_escrows◌, ◌seeing_receipts◌, ◌seeing_journal◌};
 ghost use Rattle.rules.specs.Refusals.{first, operation_refusals};
 ghost use Rattle.holds.specs.Named.{named};
 ghost use Rattle.holds.specs.Terms.{term_refusals};
@@ -48,7 +48,7 @@ pub fn closing_refusal(
     s: Submission,
 ) -> u64
     requires { (ENTRIES < length header.now) × (get_or header.now ESCROWS 0 ≤ MAX_ESCROWS) × ((s.op ≡ RELEASE) ⊎ (s.op ≡ REFUND)) × Sized edition }
-    ensures { (K : Ledger) → let L = any K of_edition edition with_header header with_escrows escrows with_journal journal in result ≡ first (operation_refusals L.entry s) }
+    ensures { (K : Ledger) → let L = any K of_edition edition seeing_header header seeing_escrows escrows seeing_journal journal in result ≡ first (operation_refusals L.entry s) }
 {
     let count = header[ESCROWS];
     let entries = header[ENTRIES] as usize;
@@ -76,7 +76,7 @@ fn terms_refusal(
     s: Submission,
 ) -> u64
     requires { (ENTRIES < length header.now) × (get_or header.now ESCROWS 0 ≤ MAX_ESCROWS) × (s.issued ≤ LAST_TIME_MS) × Sized edition }
-    ensures { (K : Ledger) → let L = any K of_edition edition with_header header with_escrows escrows with_receipts receipts with_journal journal in result ≡ first (term_refusals L.entry s) }
+    ensures { (K : Ledger) → let L = any K of_edition edition seeing_header header seeing_escrows escrows seeing_receipts receipts seeing_journal journal in result ≡ first (term_refusals L.entry s) }
 {
     let held = header[ESCROWS];
     let claimed = header[RECEIPTS] as usize;
@@ -119,7 +119,7 @@ pub fn claim_refusal(
     s: Submission,
 ) -> u64
     requires { (ENTRIES < length header.now) × (get_or header.now ESCROWS 0 ≤ MAX_ESCROWS) × (get_or header.now WALLETS 0 * WALLET_LEN ≤ length wallets.now) × (s.issued ≤ LAST_TIME_MS) × (s.op ≡ CLAIM) × Sized edition }
-    ensures { result ≡ first (operation_refusals (lent edition header wallets escrows receipts journal).entry s) }
+    ensures { result ≡ first (operation_refusals (shown edition header wallets escrows receipts journal).entry s) }
 {
     if (s.target == 0) | (s.target == s.signer) {
         return 15;
@@ -145,7 +145,7 @@ pub fn claim_refusal(
 // A reply, an accept or a dispute: checks 32, 33, 34, 41, 35, 40, in this order. A dispute alone needs a reason.
 pub fn reply_refusal(header: &[u64], receipts: &[u64], journal: &[u64], s: Submission) -> u64
     requires { (ENTRIES < length header.now) × (get_or header.now RECEIPTS 0 ≤ MAX_RECEIPTS) × (s.op ≡ REPLY) }
-    ensures { (K : Ledger) → let L = any K with_header header with_receipts receipts with_journal journal in result ≡ first (operation_refusals L.entry s) }
+    ensures { (K : Ledger) → let L = any K seeing_header header seeing_receipts receipts seeing_journal journal in result ≡ first (operation_refusals L.entry s) }
 {
     let count = header[RECEIPTS];
     let entries = header[ENTRIES] as usize;

@@ -6,7 +6,7 @@ ghost use Rattle.std.specs.Prelude.{◌≡◌, cond, ◌+◌, ◌-◌, ◌*◌, 
 ghost use Rattle.rules.specs.Limits.{WALLET_LEN, ESCROW_STATE, ESCROW_CLOSED_AT, ESCROW_CLOSED_BY, RELEASED};
 ghost use Rattle.rules.specs.Table.{word, put_row};
 ghost use Rattle.rules.specs.Ledger.{Ledger, row_of, put_escrow};
-ghost use Rattle.rules.specs.Moments.{any, ◌of_edition◌, ◌with_header◌, ◌with_wallets◌, ◌with_escrows◌, ◌with_receipts◌};
+ghost use Rattle.rules.specs.Moments.{any, ◌of_edition◌, ◌with_header◌, ◌with_wallets◌, ◌with_escrows◌, ◌with_receipts◌, ◌seeing_header◌, ◌seeing_escrows◌};
 ghost use Rattle.rules.specs.Settle.{ensure_wallet, end_escrow, close_receipt, accept_row, done};
 ghost use Rattle.rules.specs.Refusals.{releasable};
 ghost use Rattle.rows.specs.Numbered.{Names};
@@ -143,7 +143,7 @@ pub fn end_escrow(
     signer: u64,
 )
     requires { Names number.0 × Ends edition header.now wallets.old escrows.old (number.0 - 1) }
-    ensures { (K : Ledger) → let L = any K of_edition edition with_header header with_wallets wallets with_escrows escrows in L.exit ≡ end_escrow state time signer (number.0 - 1) L.entry }
+    ensures { (K : Ledger) → let L = any K of_edition edition seeing_header header with_wallets wallets with_escrows escrows in L.exit ≡ end_escrow state time signer (number.0 - 1) L.entry }
 {
     let from = numbered::escrow(edition, escrows, number, FROM);
     let to = numbered::escrow(edition, escrows, number, TO);
@@ -174,7 +174,7 @@ pub fn close_receipt(
 // Whether an escrow is open and not stale.
 pub fn is_releasable(edition: Edition, escrows: &[u64], number: EscrowNumber, time: u64) -> bool
     requires { Names number.0 × (edition.escrow < 2 ^ 16) }
-    ensures { (K : Ledger) → let L = any K of_edition edition with_escrows escrows in result ≡ releasable L.entry time (number.0 - 1) }
+    ensures { (K : Ledger) → let L = any K of_edition edition seeing_escrows escrows in result ≡ releasable L.entry time (number.0 - 1) }
 {
     let state = numbered::escrow(edition, escrows, number, ESCROW_STATE);
     let deadline = numbered::escrow(edition, escrows, number, ESCROW_DEADLINE);
@@ -193,7 +193,7 @@ pub fn accept_receipt(
     signer: u64,
 ) -> u64
     requires { Names number.0 × Accepts edition header.now wallets.old escrows.old receipts.old time (number.0 - 1) }
-    ensures { (K : Ledger) → let L = any K of_edition edition with_header header with_wallets wallets with_escrows escrows with_receipts receipts in done result L.exit ≡ accept_row time signer (number.0 - 1) L.entry }
+    ensures { (K : Ledger) → let L = any K of_edition edition seeing_header header with_wallets wallets with_escrows escrows with_receipts receipts in done result L.exit ≡ accept_row time signer (number.0 - 1) L.entry }
 {
     let link = EscrowNumber(numbered::receipt(receipts, number, RECEIPT_LINK));
     close_receipt(receipts, number, ACCEPTED, time, signer);

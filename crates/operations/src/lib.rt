@@ -5,7 +5,7 @@
 ghost use Rattle.std.specs.Prelude.{◌≡◌, ◌-◌};
 ghost use Rattle.rules.specs.Limits.{AUTO_OR_FREEZE};
 ghost use Rattle.rules.specs.Ledger.{Ledger};
-ghost use Rattle.rules.specs.Moments.{any, ◌of_edition◌, ◌with_header◌, ◌with_wallets◌, ◌with_escrows◌, ◌with_receipts◌};
+ghost use Rattle.rules.specs.Moments.{any, ◌of_edition◌, ◌with_header◌, ◌with_wallets◌, ◌with_escrows◌, ◌with_receipts◌, ◌seeing_header◌};
 ghost use Rattle.rules.specs.Record.{bit};
 ghost use Rattle.rules.specs.Settle.{done, grant, transfer, open_escrow, end_escrow, claim, accept, dispute, reply, freeze, caps, close};
 ghost use Rattle.rows.specs.Numbered.{Names};
@@ -89,7 +89,7 @@ pub fn close_escrow(
     state: u64,
 ) -> u64
     requires { Names s.target × Ends edition header.now wallets.old escrows.old (s.target - 1) }
-    ensures { (K : Ledger) → let L = any K of_edition edition with_header header with_wallets wallets with_escrows escrows in done result L.exit ≡ done 0 (end_escrow state s.now s.signer (s.target - 1) L.entry) }
+    ensures { (K : Ledger) → let L = any K of_edition edition seeing_header header with_wallets wallets with_escrows escrows in done result L.exit ≡ done 0 (end_escrow state s.now s.signer (s.target - 1) L.entry) }
 {
     let number = EscrowNumber(s.target);
     moves::end_escrow(
@@ -133,7 +133,7 @@ fn accept(
     s: Submission,
 ) -> u64
     requires { Names s.target × Accepts edition header.now wallets.old escrows.old receipts.old s.now (s.target - 1) }
-    ensures { (K : Ledger) → let L = any K of_edition edition with_header header with_wallets wallets with_escrows escrows with_receipts receipts in done result L.exit ≡ accept s L.entry }
+    ensures { (K : Ledger) → let L = any K of_edition edition seeing_header header with_wallets wallets with_escrows escrows with_receipts receipts in done result L.exit ≡ accept s L.entry }
 {
     let number = ReceiptNumber(s.target);
     moves::accept_receipt(
@@ -161,7 +161,7 @@ pub fn reply(
     s: Submission,
 ) -> u64
     requires { Names s.target × Accepts edition header.now wallets.old escrows.old receipts.old s.now (s.target - 1) }
-    ensures { (K : Ledger) → let L = any K of_edition edition with_header header with_wallets wallets with_escrows escrows with_receipts receipts in done result L.exit ≡ reply s L.entry }
+    ensures { (K : Ledger) → let L = any K of_edition edition seeing_header header with_wallets wallets with_escrows escrows with_receipts receipts in done result L.exit ≡ reply s L.entry }
 {
     if s.flags / ACCEPTS % 2 == 0 {
         return dispute(receipts, s);
@@ -194,7 +194,7 @@ pub fn freeze(header: &mut [u64], wallets: &mut [u64], s: Submission) -> u64
 // Caps sets both caps.
 pub fn caps(header: &[u64], wallets: &mut [u64], s: Submission) -> u64
     requires { Naming header.now wallets.old s }
-    ensures { (K : Ledger) → let L = any K with_header header with_wallets wallets in done result L.exit ≡ caps s L.entry }
+    ensures { (K : Ledger) → let L = any K seeing_header header with_wallets wallets in done result L.exit ≡ caps s L.entry }
 {
     let found = numbered::find_wallet(wallets, header[WALLETS] as usize, s.target);
     match found {
@@ -212,7 +212,7 @@ pub fn caps(header: &[u64], wallets: &mut [u64], s: Submission) -> u64
 // Close sets the wallet's frozen word to 2, for good.
 pub fn close(header: &[u64], wallets: &mut [u64], s: Submission) -> u64
     requires { Naming header.now wallets.old s }
-    ensures { (K : Ledger) → let L = any K with_header header with_wallets wallets in done result L.exit ≡ close s L.entry }
+    ensures { (K : Ledger) → let L = any K seeing_header header with_wallets wallets in done result L.exit ≡ close s L.entry }
 {
     let found = numbered::find_wallet(wallets, header[WALLETS] as usize, s.target);
     match found {

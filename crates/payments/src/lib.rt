@@ -4,7 +4,7 @@
 ghost use Rattle.std.specs.Prelude.{◌≡◌, ◌⊎◌, ◌+◌, ◌*◌, ◌≤◌, ◌<◌, get_or, length};
 ghost use Rattle.rules.specs.Limits.{WALLET_LEN, MAX_WALLETS, LAST_TIME_MS, WALLETS, ENTRIES, GRANT, TRANSFER, OPEN};
 ghost use Rattle.rules.specs.Ledger.{Ledger, Sized, row_of};
-ghost use Rattle.rules.specs.Moments.{any, ◌of_edition◌, ◌with_header◌, ◌with_wallets◌, ◌with_escrows◌, ◌with_journal◌};
+ghost use Rattle.rules.specs.Moments.{any, ◌of_edition◌, ◌seeing_header◌, ◌seeing_wallets◌, ◌seeing_escrows◌, ◌seeing_journal◌};
 ghost use Rattle.rules.specs.Refusals.{first, operation_refusals};
 ghost use Rattle.payments.specs.Entries.{Entries};
 ghost use Rattle.payments.specs.Sending.{limited, sending_refusals};
@@ -20,7 +20,7 @@ pub mod sums;
 // A grant: checks 12, 15, 43, 36, 37, 40, in this order.
 pub fn grant_refusal(header: &[u64], wallets: &[u64], journal: &[u64], s: Submission) -> u64
     requires { (ENTRIES < length header.now) × (get_or header.now WALLETS 0 * WALLET_LEN ≤ length wallets.now) × (s.op ≡ GRANT) }
-    ensures { (K : Ledger) → let L = any K with_header header with_wallets wallets with_journal journal in result ≡ first (operation_refusals L.entry s) }
+    ensures { (K : Ledger) → let L = any K seeing_header header seeing_wallets wallets seeing_journal journal in result ≡ first (operation_refusals L.entry s) }
 {
     let granted = header[GRANTED];
     let count = header[WALLETS] as usize;
@@ -71,7 +71,7 @@ fn sending_refusal(
     sender: WalletNumber,
 ) -> u64
     requires { (ENTRIES < length header.now) × (get_or header.now WALLETS 0 ≤ MAX_WALLETS) × (get_or header.now WALLETS 0 * WALLET_LEN ≤ length wallets.now) × Entries journal.now (get_or header.now ENTRIES 0) × (s.now ≤ LAST_TIME_MS) × Sized edition × (sender.0 ≡ row_of wallets.now (get_or header.now WALLETS 0) s.signer + 1) }
-    ensures { (K : Ledger) → let L = any K of_edition edition with_header header with_wallets wallets with_escrows escrows with_journal journal in result ≡ first (sending_refusals L.entry s) }
+    ensures { (K : Ledger) → let L = any K of_edition edition seeing_header header seeing_wallets wallets seeing_escrows escrows seeing_journal journal in result ≡ first (sending_refusals L.entry s) }
 {
     let count = header[WALLETS] as usize;
     let held = header[ESCROWS] as usize;
@@ -106,7 +106,7 @@ pub fn paying_refusal(
     s: Submission,
 ) -> u64
     requires { (ENTRIES < length header.now) × (get_or header.now WALLETS 0 ≤ MAX_WALLETS) × (get_or header.now WALLETS 0 * WALLET_LEN ≤ length wallets.now) × Entries journal.now (get_or header.now ENTRIES 0) × (s.now ≤ LAST_TIME_MS) × ((s.op ≡ TRANSFER) ⊎ (s.op ≡ OPEN)) × Sized edition }
-    ensures { (K : Ledger) → let L = any K of_edition edition with_header header with_wallets wallets with_escrows escrows with_journal journal in result ≡ first (operation_refusals L.entry s) }
+    ensures { (K : Ledger) → let L = any K of_edition edition seeing_header header seeing_wallets wallets seeing_escrows escrows seeing_journal journal in result ≡ first (operation_refusals L.entry s) }
 {
     let count = header[WALLETS] as usize;
     let sender = rows::numbered::find_wallet(wallets, count, s.signer);

@@ -3,7 +3,7 @@ ghost use Rattle.std.specs.Prelude.{◌≡◌, ◌&&◌, ◌+◌, ◌*◌, ◌�
 ghost use Rattle.rules.specs.Limits.{WALLET_LEN, ESCROW_LEN, MAX_WALLETS, WALLETS, ESCROWS, ENTRIES, SWEEP, FREEZE, CAPS, CLOSE, TO, ESCROW_STATE, IS_OPEN};
 ghost use Rattle.rules.specs.Table.{word};
 ghost use Rattle.rules.specs.Ledger.{Ledger, Sized};
-ghost use Rattle.rules.specs.Moments.{any, ◌of_edition◌, ◌with_header◌, ◌with_wallets◌, ◌with_escrows◌, ◌with_journal◌};
+ghost use Rattle.rules.specs.Moments.{any, ◌of_edition◌, ◌seeing_header◌, ◌seeing_wallets◌, ◌seeing_escrows◌, ◌seeing_journal◌};
 ghost use Rattle.rules.specs.Refusals.{first, operation_refusals};
 ghost use Rattle.rules.specs.Wallets.{open_to};
 
@@ -25,7 +25,7 @@ pub fn sweep_refusal(s: Submission) -> u64
 // A freeze: checks 16, 43, 40, in this order. Target 0 is the system.
 pub fn freeze_refusal(header: &[u64], wallets: &[u64], journal: &[u64], s: Submission) -> u64
     requires { (ENTRIES < length header.now) × (get_or header.now WALLETS 0 * WALLET_LEN ≤ length wallets.now) × (s.op ≡ FREEZE) }
-    ensures { (K : Ledger) → let L = any K with_header header with_wallets wallets with_journal journal in result ≡ first (operation_refusals L.entry s) }
+    ensures { (K : Ledger) → let L = any K seeing_header header seeing_wallets wallets seeing_journal journal in result ≡ first (operation_refusals L.entry s) }
 {
     let count = header[WALLETS] as usize;
     let entries = header[ENTRIES] as usize;
@@ -42,7 +42,7 @@ pub fn freeze_refusal(header: &[u64], wallets: &[u64], journal: &[u64], s: Submi
 // New caps: checks 12, 16, 43, 40, in this order.
 pub fn caps_refusal(header: &[u64], wallets: &[u64], journal: &[u64], s: Submission) -> u64
     requires { (ENTRIES < length header.now) × (get_or header.now WALLETS 0 * WALLET_LEN ≤ length wallets.now) × (s.op ≡ CAPS) }
-    ensures { (K : Ledger) → let L = any K with_header header with_wallets wallets with_journal journal in result ≡ first (operation_refusals L.entry s) }
+    ensures { (K : Ledger) → let L = any K seeing_header header seeing_wallets wallets seeing_journal journal in result ≡ first (operation_refusals L.entry s) }
 {
     let count = header[WALLETS] as usize;
     let entries = header[ENTRIES] as usize;
@@ -91,7 +91,7 @@ pub fn close_refusal(
     s: Submission,
 ) -> u64
     requires { (ENTRIES < length header.now) × (get_or header.now WALLETS 0 ≤ MAX_WALLETS) × (get_or header.now WALLETS 0 * WALLET_LEN ≤ length wallets.now) × (get_or header.now ESCROWS 0 * edition.escrow ≤ length escrows.now) × (s.op ≡ CLOSE) × Sized edition }
-    ensures { (K : Ledger) → let L = any K of_edition edition with_header header with_wallets wallets with_escrows escrows with_journal journal in result ≡ first (operation_refusals L.entry s) }
+    ensures { (K : Ledger) → let L = any K of_edition edition seeing_header header seeing_wallets wallets seeing_escrows escrows seeing_journal journal in result ≡ first (operation_refusals L.entry s) }
 {
     let count = header[WALLETS] as usize;
     let held = header[ESCROWS] as usize;

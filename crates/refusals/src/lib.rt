@@ -3,7 +3,7 @@
 #![tactic(auto)]
 
 ghost use Rattle.std.specs.Prelude.{◌≡◌};
-ghost use Rattle.rules.specs.Moments.{tables, lent};
+ghost use Rattle.rules.specs.Moments.{tables_shown, shown};
 ghost use Rattle.rules.specs.Refusals.{first, operation_refusals};
 ghost use Rattle.refusals.specs.Checkable.{Checkable, later_refusals};
 
@@ -24,8 +24,8 @@ fn operation_refusal(
     journal: &[u64],
     s: Submission,
 ) -> u64
-    requires { Checkable (tables edition header wallets escrows receipts journal) s }
-    ensures { result ≡ first (operation_refusals (lent edition header wallets escrows receipts journal).entry s) }
+    requires { Checkable (tables_shown edition header wallets escrows receipts journal) s }
+    ensures { result ≡ first (operation_refusals (shown edition header wallets escrows receipts journal).entry s) }
 {
     let op = s.op;
     match op {
@@ -53,8 +53,8 @@ pub fn refusal(
     journal: &[u64],
     s: Submission,
 ) -> u64
-    requires { Checkable (tables edition header wallets escrows receipts journal) s }
-    ensures { result ≡ first (later_refusals (lent edition header wallets escrows receipts journal).entry s) }
+    requires { Checkable (tables_shown edition header wallets escrows receipts journal) s }
+    ensures { result ≡ first (later_refusals (shown edition header wallets escrows receipts journal).entry s) }
 {
     let number = envelope::envelope_refusal(header, journal, s);
     if number != 0 {

@@ -1,22 +1,34 @@
 -- The two moments of a call: the ledger at entry, as the call finds the tables that it is lent, and at exit, as it leaves them.
 -- A function that is lent all five tables speaks of `lent`. One that is lent only some speaks of any ledger K with those in the place of K's
--- own, `any K with_header header with_wallets wallets`, and so names no table and no edition that it does not see.
+-- own, `any K with_header header with_wallets wallets`, and so names no table and no edition that it does not see. A table that is lent only to
+-- be read stands under `seeing_` in the place of `with_`; where all five are, the words are `shown` and `tables_shown`.
 use Rattle.std.specs.Prelude.{List, ℕ}
-use Rattle.std.specs.Borrow.{Bor}
+use Rattle.std.specs.Borrow.{Bor, MutBor}
 use denote.Triple.Both.{Both}
 use Rattle.rules.specs.Ledger.{Edition, Ledger, ledger_of, set_edition, set_header, set_wallets, set_escrows, set_receipts, set_journal}
 
 infixl 5 ◌of_edition◌ ◌with_header◌ ◌with_wallets◌ ◌with_escrows◌ ◌with_receipts◌ ◌with_journal◌
--- a lent slice of words: a `requires` sees it at entry, an `ensures` at both moments
+infixl 5 ◌seeing_header◌ ◌seeing_wallets◌ ◌seeing_escrows◌ ◌seeing_receipts◌ ◌seeing_journal◌
+-- a slice of words lent to be written: a `requires` sees it at entry, an `ensures` at both moments
 abbrev pub Slice : Type 0
-Slice = Bor (List ℕ)
+Slice = MutBor (List ℕ)
 
 abbrev pub Loan : Type 0
 Loan = Both Slice Slice
 
+-- the same of one lent to be read
+abbrev pub View : Type 0
+View = Bor (List ℕ)
+
+abbrev pub Sight : Type 0
+Sight = Both View View
+
 -- all five
 abbrev pub tables : Edition → Slice → Slice → Slice → Slice → Slice → Ledger
 tables edition header wallets escrows receipts journal = ledger_of edition header.now wallets.now escrows.now receipts.now journal.now
+
+abbrev pub tables_shown : Edition → View → View → View → View → View → Ledger
+tables_shown edition header wallets escrows receipts journal = ledger_of edition header.now wallets.now escrows.now receipts.now journal.now
 
 abbrev pub Moments : Type 0
 Moments = Both Ledger Ledger
@@ -25,6 +37,12 @@ abbrev pub lent : Edition → Loan → Loan → Loan → Loan → Loan → Momen
 lent edition h w e r j = record {
   entry = tables edition h.entry w.entry e.entry r.entry j.entry;
   exit = tables edition h.exit w.exit e.exit r.exit j.exit;
+}
+
+abbrev pub shown : Edition → Sight → Sight → Sight → Sight → Sight → Moments
+shown edition h w e r j = record {
+  entry = tables_shown edition h.entry w.entry e.entry r.entry j.entry;
+  exit = tables_shown edition h.exit w.exit e.exit r.exit j.exit;
 }
 
 -- some of them: any ledger, the same at both moments, and then what is lent in the place of its own
@@ -51,3 +69,21 @@ abbrev pub ◌with_receipts◌ : Moments → Loan → Moments
 
 abbrev pub ◌with_journal◌ : Moments → Loan → Moments
 ◌with_journal◌ = laid set_journal
+
+abbrev seen : (List ℕ → Ledger → Ledger) → Moments → Sight → Moments
+seen set L t = record { entry = set t.entry.now L.entry; exit = set t.exit.now L.exit }
+
+abbrev pub ◌seeing_header◌ : Moments → Sight → Moments
+◌seeing_header◌ = seen set_header
+
+abbrev pub ◌seeing_wallets◌ : Moments → Sight → Moments
+◌seeing_wallets◌ = seen set_wallets
+
+abbrev pub ◌seeing_escrows◌ : Moments → Sight → Moments
+◌seeing_escrows◌ = seen set_escrows
+
+abbrev pub ◌seeing_receipts◌ : Moments → Sight → Moments
+◌seeing_receipts◌ = seen set_receipts
+
+abbrev pub ◌seeing_journal◌ : Moments → Sight → Moments
+◌seeing_journal◌ = seen set_journal

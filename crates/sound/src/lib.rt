@@ -4,7 +4,7 @@
 ghost use Rattle.std.specs.Prelude.{◌≡◌, true, ◌≤◌, length};
 ghost use Rattle.rules.specs.Table.{all};
 ghost use Rattle.rules.specs.Ledger.{Sized, lengths_right};
-ghost use Rattle.rules.specs.Moments.{tables, lent};
+ghost use Rattle.rules.specs.Moments.{tables_shown, shown};
 ghost use Rattle.rules.specs.Sound.{header_tests, sound};
 ghost use Rattle.rules.specs.Limits.{HEADER_LEN, ESCROW_LEN};
 
@@ -29,7 +29,7 @@ fn header_right(
     journal: &[u64],
 ) -> bool
     requires { (HEADER_LEN ≤ length header.now) × (ESCROW_LEN ≤ edition.escrow) }
-    ensures { result ≡ all (header_tests (lent edition header wallets escrows receipts journal).entry) }
+    ensures { result ≡ all (header_tests (shown edition header wallets escrows receipts journal).entry) }
 {
     (header[EDITION] == edition.number)
         & ((header[SYSTEM_FROZEN] <= 1)
@@ -49,8 +49,8 @@ pub fn is_sound(
     receipts: &[u64],
     journal: &[u64],
 ) -> bool
-    requires { (lengths_right (tables edition header wallets escrows receipts journal) ≡ true) × Sized edition }
-    ensures { result ≡ sound (lent edition header wallets escrows receipts journal).entry }
+    requires { (lengths_right (tables_shown edition header wallets escrows receipts journal) ≡ true) × Sized edition }
+    ensures { result ≡ sound (shown edition header wallets escrows receipts journal).entry }
 {
     if !header_right(edition, header, wallets, escrows, receipts, journal) {
         return false;

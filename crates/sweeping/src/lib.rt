@@ -5,7 +5,7 @@ ghost use Rattle.std.specs.Prelude.{◌≡◌, ◌&&◌, ℕ, ◌+◌, ◌-◌, 
 ghost use Rattle.rules.specs.Limits.{ESCROWS};
 ghost use Rattle.rules.specs.Table.{loop};
 ghost use Rattle.rules.specs.Ledger.{Ledger};
-ghost use Rattle.rules.specs.Moments.{any, ◌of_edition◌, ◌with_header◌, ◌with_wallets◌, ◌with_escrows◌, ◌with_receipts◌};
+ghost use Rattle.rules.specs.Moments.{tables, any, ◌of_edition◌, ◌with_wallets◌, ◌with_escrows◌, ◌with_receipts◌, ◌seeing_header◌};
 ghost use Rattle.rules.specs.Settle.{done, close_due_receipt, sweep_receipt, sweep_escrow, swept_receipts, swept};
 ghost use Rattle.rules.specs.Due.{due};
 ghost use Rattle.rows.specs.Numbered.{Names};
@@ -40,7 +40,7 @@ fn close_due_receipt(
     time: u64,
 )
     requires { Names number.0 × Accepts edition header.now wallets.old escrows.old receipts.old time (number.0 - 1) }
-    ensures { (K : Ledger) → let L = any K of_edition edition with_header header with_wallets wallets with_escrows escrows with_receipts receipts in L.exit ≡ close_due_receipt time (number.0 - 1) L.entry }
+    ensures { (K : Ledger) → let L = any K of_edition edition seeing_header header with_wallets wallets with_escrows escrows with_receipts receipts in L.exit ≡ close_due_receipt time (number.0 - 1) L.entry }
 {
     let auto = numbered::receipt(receipts, number, AUTO_ACCEPT);
     if auto == 1 {
@@ -63,7 +63,7 @@ fn sweep_receipt(
     time: u64,
 ) -> u64
     requires { Names number.0 × Accepts edition header.now wallets.old escrows.old receipts.old time (number.0 - 1) }
-    ensures { (result ≤ 1) × ((K : Ledger) (room closed : ℕ) → let L = any K of_edition edition with_header header with_wallets wallets with_escrows escrows with_receipts receipts in 0 < room → under_way (room - result) (closed + result) L.exit ≡ sweep_receipt time (number.0 - 1) (under_way room closed L.entry)) }
+    ensures { (result ≤ 1) × ((K : Ledger) (room closed : ℕ) → let L = any K of_edition edition seeing_header header with_wallets wallets with_escrows escrows with_receipts receipts in 0 < room → under_way (room - result) (closed + result) L.exit ≡ sweep_receipt time (number.0 - 1) (under_way room closed L.entry)) }
 {
     let state = numbered::receipt(receipts, number, RECEIPT_STATE);
     let deadline = numbered::receipt(receipts, number, ACCEPTANCE_DEADLINE);
@@ -84,7 +84,7 @@ fn sweep_escrow(
     time: u64,
 ) -> u64
     requires { Names number.0 × Expires edition header.now wallets.old escrows.old (number.0 - 1) }
-    ensures { (result ≤ 1) × ((K : Ledger) (room closed : ℕ) → let L = any K of_edition edition with_header header with_wallets wallets with_escrows escrows in 0 < room → under_way (room - result) (closed + result) L.exit ≡ sweep_escrow time (number.0 - 1) (under_way room closed L.entry)) }
+    ensures { (result ≤ 1) × ((K : Ledger) (room closed : ℕ) → let L = any K of_edition edition seeing_header header with_wallets wallets with_escrows escrows in 0 < room → under_way (room - result) (closed + result) L.exit ≡ sweep_escrow time (number.0 - 1) (under_way room closed L.entry)) }
 {
     let state = numbered::escrow(edition, escrows, number, ESCROW_STATE);
     let deadline = numbered::escrow(edition, escrows, number, ESCROW_DEADLINE);
@@ -108,7 +108,7 @@ fn sweep_receipts(
     limit: u64,
 ) -> u64
     requires { Sweeping edition header.now wallets.old escrows.old receipts.old time }
-    ensures { (result ≤ limit) × ((K : Ledger) → let L = any K of_edition edition with_header header with_wallets wallets with_escrows escrows with_receipts receipts in under_way (limit - result) result L.exit ≡ swept_receipts time limit L.entry) }
+    ensures { (result ≤ limit) × ((K : Ledger) → let L = any K of_edition edition seeing_header header with_wallets wallets with_escrows escrows with_receipts receipts in under_way (limit - result) result L.exit ≡ swept_receipts time limit L.entry) }
 {
     let written = header[RECEIPTS];
     let mut closed = 0;
@@ -135,7 +135,7 @@ fn sweep_escrows(
     limit: u64,
 ) -> u64
     requires { Expiring edition header.now wallets.old escrows.old time }
-    ensures { (result ≤ limit) × ((K : Ledger) (closed : ℕ) → let L = any K of_edition edition with_header header with_wallets wallets with_escrows escrows in under_way (limit - result) (closed + result) L.exit ≡ loop (get_or header.now ESCROWS 0) (sweep_escrow time) (under_way limit closed L.entry)) }
+    ensures { (result ≤ limit) × ((K : Ledger) (closed : ℕ) → let L = any K of_edition edition seeing_header header with_wallets wallets with_escrows escrows in under_way (limit - result) (closed + result) L.exit ≡ loop (get_or header.now ESCROWS 0) (sweep_escrow time) (under_way limit closed L.entry)) }
 {
     let written = header[ESCROWS];
     let mut closed = 0;
@@ -163,7 +163,7 @@ pub fn sweep(
     limit: u64,
 ) -> u64
     requires { Sweeping edition header.now wallets.old escrows.old receipts.old time }
-    ensures { (K : Ledger) → let L = any K of_edition edition with_header header with_wallets wallets with_escrows escrows with_receipts receipts in (done result L.exit ≡ done (swept time limit L.entry).closed (swept time limit L.entry).tables) × (result ≡ min limit (due L.entry time)) }
+    ensures { (K : Ledger) → let L = any K of_edition edition seeing_header header with_wallets wallets with_escrows escrows with_receipts receipts in (done result L.exit ≡ done (swept time limit L.entry).closed (swept time limit L.entry).tables) × (result ≡ min limit (due L.entry time)) }
 {
     let closed = sweep_receipts(edition, header, wallets, escrows, receipts, time, limit);
     let expired = sweep_escrows(edition, header, wallets, escrows, time, limit - closed);
