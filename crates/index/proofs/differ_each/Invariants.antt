@@ -1,0 +1,14 @@
+-- `index::differ_each` meets its contract. The loop's invariant: `ok` says whether the ids passed differ.
+use native.Mathlib.Omega.{arith}
+use Prim.Native.Nat.{◌≤◌, ◌-◌}
+use mathlib.Core.Path.{◌≡◌, sym, ap, ◌∙◌}
+use Rattle.rules.specs.Table.{distinct}
+use Rattle.rules.proofs.Counts.{every_none, every_step}
+use Rattle.index.specs.Index.{id_at}
+use Rattle.index.proofs.differ_each.Given as goal
+
+abbrev pub invariant-loop-i : goal.invariant-loop-i
+invariant-loop-i l = (l.i ≤ l.n) × (l.ok ≡ distinct l.i (id_at l.ids))
+
+abbrev pub decreases-loop-i : goal.decreases-loop-i
+decreases-loop-i l = l.n - l.i

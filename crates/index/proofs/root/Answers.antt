@@ -1,0 +1,9 @@
+-- `index::root` meets its contract: every place proposes a number within n.
+use native.Mathlib.Omega.{arith}
+use Prim.Native.Nat.{◌%◌}
+use Rattle.index.specs.Index.{ROOTS}
+use borrow.Author.Rules.{rules}
+use Rattle.index.proofs.root.Goals as goal
+
+pub returns : goal.returns
+returns c = omega (arith, c.wide.ensures, c.requires.most (c.args.y % ROOTS))

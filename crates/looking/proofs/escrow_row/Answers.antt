@@ -1,0 +1,17 @@
+-- `looking::escrow_row` meets its contract.
+use native.Mathlib.Omega.{arith}
+use Rattle.rules.specs.Limits.{MAX_ESCROWS, ESCROWS}
+use Rattle.rules.proofs.Places.{place_within}
+use Rattle.looking.proofs.Parts.{part_by}
+use borrow.Author.Rules.{rules}
+use Rattle.looking.proofs.escrow_row.Goals as goal
+
+pub row_part-requires : goal.row_part-requires
+row_part-requires c =
+    let a = c.args in
+    (search rules, omega (arith, place_within a.edition.header ESCROWS a.edition.escrow MAX_ESCROWS a.header.now a.escrows.now a.n.0))
+
+pub returns : goal.returns
+returns c =
+    let a = c.args in
+    part_by a.edition.escrow a.escrows.now c.row_part.result.now a.escrows.ptr c.row_part.result.ptr c.escrow_place-place.ensures c.row_part.ensures

@@ -1,0 +1,41 @@
+-- `payments::paying_refusal` meets its contract: each arm is told what was found of the sender.
+use mathlib.Core.Path.{◌≡◌, sym, ap, ◌∙◌}
+use mathlib.Core.Logic.{⊎_elim}
+use Prim.Native.Nat.{◌+◌}
+use lib.ListN.{get_or}
+use Rattle.rules.specs.Limits.{WALLETS}
+use Rattle.rules.specs.Ledger.{row_of, ledger_of}
+use Rattle.rules.specs.Refusals.{first}
+use Rattle.rules.proofs.Wallets.{look_says}
+use Rattle.rows.proofs.Found.{names_found}
+use Rattle.payments.specs.Sending.{sending_refusals}
+use Rattle.payments.proofs.Paying.{by_sender, paying_by}
+use borrow.Author.Rules.{rules}
+use Rattle.payments.proofs.paying_refusal.Goals as goal
+use Rattle.payments.proofs.paying_refusal.Goals.{In-Live}
+
+-- a live sender's number
+sends : (c : In-Live) → c.in-Live.number.0 ≡ row_of c.args.wallets.now (get_or c.args.header.now WALLETS 0) c.args.s.signer + 1
+sends c = (look_says _ _ _ _ (sym c.in-Live.is ∙ c.find_wallet-sender.ensures)).2
+
+pub wallet-frozen-requires : goal.wallet-frozen-requires
+wallet-frozen-requires c = (names_found _ _ _ _ c.requires.1 (sends c), search rules)
+
+pub sending_refusal-rest-requires : goal.sending_refusal-rest-requires
+sending_refusal-rest-requires c =
+    let pre = c.requires in
+    (pre.0, pre.1, pre.2, pre.3, pre.4, pre.6, sends (goal.at.sending_refusal-rest-requires c).In-Live)
+
+-- LEFT: c.find_wallet-sender.ensures
+pub returns : goal.returns
+returns c =
+    let came = c.match-sender.branch in
+    λ K.
+    let by = by_sender _ _ (first (sending_refusals (ledger_of _ _ _ _ K.receipts _) _)) in
+    paying_by _ _ _ _ K.receipts _ _ _ _ _
+    c.requires.5
+    c.find_wallet-sender.ensures
+    (⊎_elim (λ x. x.2 ∙ sym (ap by x.1.given.1))
+    (⊎_elim (λ x. x.7 ∙ x.6.ensures ∙ rw (x.3.ensures, x.5.ensures, x.4.ensures K) (sym (ap by x.1.given.1)))
+    (λ x. x.3 ∙ x.2.ensures ∙ sym (ap by x.1.given.1))) came)
+    c.choose.ensures

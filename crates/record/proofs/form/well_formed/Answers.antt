@@ -1,0 +1,7 @@
+-- `record::form::well_formed` meets its contract.
+use Rattle.record.proofs.Uses.{formed}
+use borrow.Author.Rules.{rules}
+use Rattle.record.proofs.form.well_formed.Goals as goal
+
+pub returns : goal.returns
+returns c = formed c.args.form c.args.s c.is_today-today.ensures

@@ -1,0 +1,15 @@
+-- `record::write_record` meets its contract.
+use Rattle.record.proofs.Whole.{write_short, write_there, write_malformed}
+use borrow.Author.Rules.{rules}
+use Rattle.record.proofs.write_record.Goals as goal
+
+pub returns-then-out-ne-RECORD_BYTES : goal.returns-then-out-ne-RECORD_BYTES
+returns-then-out-ne-RECORD_BYTES c = write_short c.args.s c.args.out.now c.if-out-ne-RECORD_BYTES.true
+
+-- LEFT: c.before.before.before.before.before.well-formed-2.ensures
+pub returns-then-well_formed : goal.returns-then-well_formed
+returns-then-well_formed c = write_there c.args.s c.args.out.now _ c.if-out-ne-RECORD_BYTES.false c.before.before.before.before.before.well-formed-2.ensures c.if-well_formed.true c.put_fields.ensures
+
+-- LEFT: c.before.well-formed-2.ensures
+pub returns-else-well_formed : goal.returns-else-well_formed
+returns-else-well_formed c = write_malformed c.args.s c.args.out.now c.if-out-ne-RECORD_BYTES.false c.before.well-formed-2.ensures c.if-well_formed.false

@@ -1,0 +1,14 @@
+-- `word_bytes::put_words` meets its contract: what is left to store makes the whole.
+use mathlib.Core.Path.{◌≡◌, refl, sym, ◌∙◌}
+use Prim.Native.Nat.{◌+◌, ◌-◌, ◌*◌, ◌≤◌, ◌<◌}
+use native.Mathlib.Omega.{arith}
+use lib.ListN.{length}
+use Rattle.word_bytes.proofs.Stores.{words_put, words_all, words_next, words_done}
+use Rattle.word_bytes.proofs.put_words.Given as goal
+
+abbrev pub invariant-loop-i : goal.invariant-loop-i
+invariant-loop-i l =
+    (l.i ≤ length l.words) × (l.p ≡ l.at + 8 * l.i) × (length l.b ≡ length l.initial.b) × (words_put l.initial.b l.at 0 l.words ≡ words_put l.b l.p l.i l.words)
+
+abbrev pub decreases-loop-i : goal.decreases-loop-i
+decreases-loop-i l = length l.words - l.i
