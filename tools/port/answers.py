@@ -82,6 +82,7 @@ class Names:
         self.d = d
         self.places = {p[0]: (p[1], p[2], new, p[3]) for p, new in zip(d["places"], d["places_by_name"])}
         self.by_norm = {norm(p): p for p in self.places}
+        self.new_steps = {p[2][1] for p in d["places"]} | {a[0] for a in d["arms"] if a}
         self.arm_at = {p[0]: a for p, a in zip(d["places"], d["arms"]) if a}
         self.needs = d["needs"]
 
@@ -138,51 +139,51 @@ START = {"args", "lifetimes", "requires", "well_formed", "ranges", "type_inv", "
 
 def turn_paths(text, var, place, N, goal, left):
     """Each path from var, which is at place; names that a `let` gives to an earlier place stand for it."""
+    own = place
     known = [(var, place)]
     while True:
         again = False
         for v, at in list(known):
             m = re.search(r"let ([^\s=():]+) = " + re.escape(v) + r"((?:\.before)+) in *(\n *)?", text)
             if m:
-                to = N.up(at, m[2].count(".before"))
-                if to is None:
-                    continue
+                to = N.up(at, m[2].count(".before")) if at else None
                 text = text[: m.start()] + text[m.end():]
                 known.append((m[1], to))
                 again = True
         if not again:
             break
     for v, at in reversed(known[1:]):
-        text = turn_one(text, v, at, N, goal, left, var)
-    return turn_one(text, var, place, N, goal, left, var)
+        text = turn_one(text, v, at, N, goal, left, var, own)
+    return turn_one(text, var, place, N, goal, left, var, own).replace("\x01", var)
 
 
-def turn_one(text, var, place, N, goal, left, c):
+def turn_one(text, var, place, N, goal, left, c, own):
 
     def one(m):
         befores = m[1].count(".before")
         fields = m[2]
-        at = N.up(place, befores)
-        if at is None:
-            left.append(m[0])
-            return m[0]
         if fields == "":
             if befores == 0 and var == c:
-                return c
+                return "\x01"
+            at = N.up(place, befores) if place else None
+            if at is None:
+                left.append(m[0])
+                return m[0]
+            if at == own:
+                return "\x01"
             if goal:
-                return f"(goal.at.{goal} {c}).{N.new(at)}"
+                return f"(goal.at.{goal} \x01).{N.new(at)}"
             return m[0]
         f = fields[1:].split(".")[0]
-        if f.startswith("TURNED:"):
-            return m[0]
         rest = fields[1 + len(f):]
         if f in START:
             f = {"good": "well_formed", "pre": "requires"}.get(f, f)
             if f == "args":
                 first = rest[1:].split(".")[0]
                 rest = "." + first.replace("-", "_") + rest[1 + len(first):] if first else rest
-            return f"{c}.{f}{rest}"
-        a = at
+            return f"\x01.{f}{rest}"
+        # the names of the steps on one path differ
+        a = own
         while a is not None:
             old, new = N.step(a)
             if norm(old) == norm(f):
@@ -192,7 +193,7 @@ def turn_one(text, var, place, N, goal, left, c):
                     for word, step, path in arm[2]:
                         if norm(step) == norm(f) and path and parts[: len(path)] == path:
                             more = parts[len(path):]
-                            return f"{c}.{arm[0]}.{word}" + "".join("." + x for x in more)
+                            return f"\x01.{arm[0]}.{word}" + "".join("." + x for x in more)
                 callee = N.callee(a)
                 auto = re.match(r"\.auto\.(\d+)(.*)", rest)
                 if callee and auto:
@@ -200,12 +201,13 @@ def turn_one(text, var, place, N, goal, left, c):
                     k = int(auto[1])
                     if k < len(lent):
                         rest = f".auto.{lent[k]}{auto[2]}"
-                return f"{c}.{new}{rest}"
+                return f"\x01.{new}{rest}"
             a = N.places[a][0]
-        left.append(m[0])
+        if var != c or f not in N.new_steps:
+            left.append(m[0])
         return m[0]
 
-    return re.sub(r"(?<![\w'.\-])" + re.escape(var) + r"((?:\.before)*)((?:\.[^\s(){}.,;\[\]]+)*)(?![\w'\-])", one, text)
+    return re.sub(r"(?<![\x01\w'.\-])" + re.escape(var) + r"((?:\.before)*)((?:\.[^\s(){}.,;\[\]]+)*)(?![\w'\-])", one, text)
 
 
 def split_decl(lines):
@@ -216,7 +218,7 @@ def split_decl(lines):
 
 
 def convert(path, N, module):
-    text = open(path).read()
+    text = open(path).read().replace(".type-inv", ".type_inv").replace(".ptr", ".ref_ptr")
     for p in UNDER:
         text = re.sub(r"(?<=\.)" + p.replace("_", "-") + r"(?![\w'-])", p, text)
     bs, trailing = blocks(text)
@@ -265,7 +267,26 @@ def convert(path, N, module):
                 k = ks[0]
                 used.add(k)
                 new_name[n], at_old[n] = N.needs[k][1], asked[k][0]
-    loops = {}
+    takes = {}
+    for n, ls in decls:
+        t = " ".join(l for l in ls if not l.startswith("--"))
+        m = re.match(r"(?:abbrev )?(?:pub )?(\S+) : \(?(?:c : )?(?:tie|lts)\.([A-Z][^\s()→]*)", t)
+        if m and n not in old_needs and not m[2].startswith("Need"):
+            k = N.by_norm.get(norm(m[2]))
+            if k:
+                takes[n] = k
+
+    def pass_places(text, var, own, goal):
+        for n, k in takes.items():
+            def one(m):
+                if k == own:
+                    return f"{n} \x01"
+                if goal:
+                    return f"{n} (goal.at.{goal} \x01).{N.new(k)}"
+                return m[0]
+            text = re.sub(r"(?<![\w'.\-])" + re.escape(n) + r" " + re.escape(var) + r"((?:\.before)*)(?![\w'.\-])", one, text)
+        return text
+
     inv_out, ans_out, other = [], [], []
     goal_imports = set()
     inv_left = []
@@ -323,7 +344,9 @@ def convert(path, N, module):
             left = []
             hm = re.search(r"^" + re.escape(n) + r"((?: [^\s=]+)*) =", body0, re.M)
             var = hm[1].split()[0] if hm and hm[1].split() else "c"
-            body = turn_paths(body0[hm.end():], var, at_old[n], N, g, left) if hm else body0
+            for o, nn in new_name.items():
+                body0 = body0[: hm.end()] + re.sub(r"(?<![\w'.\-])" + re.escape(o) + r"(?![\w'\-])", nn, body0[hm.end():]) if hm else body0
+            body = turn_paths(pass_places(body0[hm.end():], var, at_old[n], g), var, at_old[n], N, g, left) if hm else body0
             unf = "".join(l + "\n" for l in body0[: hm.start()].split("\n") if l.strip()) if hm else ""
             extra = hm[1].split()[1:] if hm else []
             note = [f"-- LEFT: {' '.join(left)}"] if left else []
@@ -344,9 +367,9 @@ def convert(path, N, module):
                 goal_imports.add(N.new(k))
                 return N.new(k)
 
-            t = re.sub(r"(?:tie|lts)\.([A-Z][^\s()→]*)((?: (?:invariant|decreases)-\S+)*)", ty, t)
+            t = re.sub(r"(?:tie|lts)\.([A-Z][^\s()→]*)((?: (?:invariant|decreases)[-_][^\s()]+)*)", ty, t)
             if key:
-                t = turn_paths(t, "c", key, N, None, left)
+                t = turn_paths(pass_places(t, "c", key, None), "c", key, N, None, left)
         note = [f"-- LEFT: {' '.join(left)}"] if left else []
         ans_out.append("\n".join(note + com + [t]))
     keep = [u for u in uses if not re.search(r"\.(Tie as tie|Reads as \S+|Lts as lts|Statement\.\{statement\})", u) and "borrow.Author.Rules" not in u]

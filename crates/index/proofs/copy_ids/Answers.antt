@@ -14,7 +14,7 @@ loop-i-init c = (search rules, copied_none _ _ c.requires.2)
 pub loop-i-preserved : goal.loop-i-preserved
 loop-i-preserved c = (search rules, copied_more _ _ _ (omega arith) c.loop-i.invariant.1)
 
-the_end : (c : After-loop-i invariant_loop decreases_loop) → c.loop-i.i ≡ c.args.n
+the_end : (c : After-loop-i) → c.loop-i.i ≡ c.args.n
 the_end c = omega arith
 
 pub returns : goal.returns

@@ -13,7 +13,7 @@ pub loop-left-init : goal.loop-left-init
 loop-left-init c = (search rules, search rules, walk_start _ _ _)
 
 -- the number that a place proposes is within n
-within : (c : After-wide-s invariant_loop decreases_loop) → c.wide-s.result ≤ c.args.n
+within : (c : After-wide-s) → c.wide-s.result ≤ c.args.n
 within c = omega (arith, c.wide-s.ensures, c.requires.1.most c.loop-left.p)
 
 pub returns-then-s-eq0 : goal.returns-then-s-eq0
@@ -32,24 +32,24 @@ pub offset_bounds-ids-s : goal.offset_bounds-ids-s
 offset_bounds-ids-s c = omega (arith, within (goal.at.offset_bounds-ids-s c).After-wide-s)
 
 pub bounds-ids-s : goal.bounds-ids-s
-bounds-ids-s c = omega (arith, within (goal.at.bounds-ids-s c).Else-s-eq0)
+bounds-ids-s c = omega (arith, within (goal.at.bounds-ids-s c).After-wide-s)
 
 pub returns-then-ids-s : goal.returns-then-ids-s
 returns-then-ids-s c = record { room = search rules; few = search rules; free = λ h. absurd (omega arith); leads = λ h. absurd (omega arith) }
 
 pub overflow_mul-p : goal.overflow_mul-p
-overflow_mul-p c = omega (arith, within (goal.at.overflow_mul-p c).Else-s-eq0)
+overflow_mul-p c = omega (arith, within (goal.at.overflow_mul-p c).After-wide-s)
 
 pub overflow_add-p : goal.overflow_add-p
-overflow_add-p c = omega (arith, within (goal.at.overflow_add-p c).Else-s-eq0)
+overflow_add-p c = omega (arith, within (goal.at.overflow_add-p c).After-wide-s)
 
 pub overflow_add-p-in-loop-left : goal.overflow_add-p-in-loop-left
-overflow_add-p-in-loop-left c = omega (arith, within (goal.at.overflow_add-p-in-loop-left c).Else-s-eq0)
+overflow_add-p-in-loop-left c = omega (arith, within (goal.at.overflow_add-p-in-loop-left c).After-wide-s)
 
 pub loop-left-preserved : goal.loop-left-preserved
 loop-left-preserved c =
     let l = c.loop-left in (
-      omega (arith, within (goal.at.loop-left-preserved c).Else-s-eq0),
+      omega (arith, within (goal.at.loop-left-preserved c).After-wide-s),
       search rules,
       walk_on _ _ _ l.left l.p l.y _ l.invariant.2 (search rules) c.wide-s.ensures c.if-s-eq0.false c.if-ids-s.false,
     )

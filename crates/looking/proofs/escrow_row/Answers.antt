@@ -14,4 +14,4 @@ row_part-requires c =
 pub returns : goal.returns
 returns c =
     let a = c.args in
-    part_by a.edition.escrow a.escrows.now c.row_part.result.now a.escrows.ptr c.row_part.result.ptr c.escrow_place-place.ensures c.row_part.ensures
+    part_by a.edition.escrow a.escrows.now c.row_part.result.now a.escrows.ref_ptr c.row_part.result.ref_ptr c.escrow_place-place.ensures c.row_part.ensures

@@ -14,4 +14,4 @@ row_part-requires c =
 pub returns : goal.returns
 returns c =
     let a = c.args in
-    part_by RECEIPT_LEN a.receipts.now c.row_part.result.now a.receipts.ptr c.row_part.result.ptr c.receipt_place-place.ensures c.row_part.ensures
+    part_by RECEIPT_LEN a.receipts.now c.row_part.result.now a.receipts.ref_ptr c.row_part.result.ref_ptr c.receipt_place-place.ensures c.row_part.ensures

@@ -13,7 +13,6 @@ find_wallet-requires c =
     let a = c.args in
     counted a.edition a.header.now a.wallets.now a.id c.count_right-right.ensures c.if-right-id.false c.at-n.ensures
 
--- LEFT: c.count_right-right.ensures c.if-right-id.false c.at-n.ensures
 pub returns : goal.returns
 returns c =
     let a = c.args in

@@ -3,7 +3,6 @@ use Rattle.rules.specs.Ledger.{put_escrow}
 use borrow.Author.Rules.{rules}
 use Rattle.moves.proofs.close_escrow.Goals as goal
 
--- LEFT: c.set_escrow-3.ensures c.set_escrow-2.ensures
 pub returns : goal.returns
 unfolding put_escrow
 returns c =

@@ -4,7 +4,6 @@ use Rattle.rules.specs.Settle.{close_receipt}
 use borrow.Author.Rules.{rules}
 use Rattle.moves.proofs.close_receipt.Goals as goal
 
--- LEFT: c.set_receipt-3.ensures c.set_receipt-2.ensures
 pub returns : goal.returns
 unfolding close_receipt put_receipt
 returns c =

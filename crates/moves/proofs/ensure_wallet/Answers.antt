@@ -5,7 +5,6 @@ use Rattle.moves.proofs.Wallets.{ensured_found, ensured_new, next_row}
 use borrow.Author.Rules.{rules}
 use Rattle.moves.proofs.ensure_wallet.Goals as goal
 
--- LEFT: c.in-Missing.is c.find_wallet-found.ensures c.append-made.ensures.0 c.append-made.ensures.1 c.append-made.ensures.2
 pub returns-in-Missing : goal.returns-in-Missing
 returns-in-Missing c =
     let missing = look_says _ _ _ _ (sym c.in-Missing.is ∙ c.find_wallet-found.ensures) in

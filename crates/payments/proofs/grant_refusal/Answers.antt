@@ -4,11 +4,10 @@ use mathlib.Core.Logic.{⊎_elim}
 use Rattle.payments.proofs.Grant.{by_recipient, grant_by}
 use borrow.Author.Rules.{rules}
 use Rattle.payments.proofs.grant_refusal.Goals as goal
+use Rattle.payments.proofs.grant_refusal.Goals.{in-Missing, in-Live, in-Closed}
 
--- LEFT: c.exceeds-over.result c.choose-r37.result c.choose-r40.result c.find_wallet-recipient.ensures c.exceeds-over.ensures c.choose-r40.ensures c.choose-r37.ensures
 pub returns : goal.returns
 returns c =
-    let came = c.match-recipient.branch in
     let by = by_recipient c.exceeds-over.result c.choose-r37.result c.choose-r40.result in
     λ K. grant_by K.edition _ _ K.escrows K.receipts _ _ _ _ _ _ _ _ _
     c.requires.2
@@ -16,7 +15,10 @@ returns c =
     c.exceeds-over.ensures
     c.choose-r40.ensures
     c.choose-r37.ensures
-    (⊎_elim (λ x. x.3 ∙ x.2.ensures ∙ sym (ap by x.1.given.1))
-    (⊎_elim (λ x. x.3 ∙ x.2.ensures ∙ sym (ap by x.1.given.1)) (λ x. x.2 ∙ sym (ap by x.1.given.1))) came)
+    (elim c.match-recipient.branch [
+      in-Missing w ↦ w.by_recipient-is ∙ w.choose-by_recipient.ensures ∙ sym (ap by w.in-Missing.is)
+    | in-Live w ↦ w.by_recipient-is ∙ w.choose-by_recipient-in-Live.ensures ∙ sym (ap by w.in-Live.is)
+    | in-Closed w ↦ w.by_recipient-is ∙ sym (ap by w.in-Closed.is)
+    ])
     c.choose-r15.ensures
     c.choose.ensures

@@ -12,6 +12,7 @@ use Rattle.payments.specs.Sending.{sending_refusals}
 use Rattle.payments.proofs.Paying.{by_sender, paying_by}
 use borrow.Author.Rules.{rules}
 use Rattle.payments.proofs.paying_refusal.Goals as goal
+use Rattle.payments.proofs.paying_refusal.Goals.{in-Missing, in-Live, in-Closed}
 use Rattle.payments.proofs.paying_refusal.Goals.{In-Live}
 
 -- a live sender's number
@@ -26,16 +27,16 @@ sending_refusal-rest-requires c =
     let pre = c.requires in
     (pre.0, pre.1, pre.2, pre.3, pre.4, pre.6, sends (goal.at.sending_refusal-rest-requires c).In-Live)
 
--- LEFT: c.find_wallet-sender.ensures
 pub returns : goal.returns
 returns c =
-    let came = c.match-sender.branch in
     λ K.
     let by = by_sender _ _ (first (sending_refusals (ledger_of _ _ _ _ K.receipts _) _)) in
     paying_by _ _ _ _ K.receipts _ _ _ _ _
     c.requires.5
     c.find_wallet-sender.ensures
-    (⊎_elim (λ x. x.2 ∙ sym (ap by x.1.given.1))
-    (⊎_elim (λ x. x.7 ∙ x.6.ensures ∙ rw (x.3.ensures, x.5.ensures, x.4.ensures K) (sym (ap by x.1.given.1)))
-    (λ x. x.3 ∙ x.2.ensures ∙ sym (ap by x.1.given.1))) came)
+    (elim c.match-sender.branch [
+      in-Missing w ↦ w.by_sender-is ∙ sym (ap by w.in-Missing.is)
+    | in-Live w ↦ w.by_sender-is ∙ w.choose-by_sender.ensures ∙ rw (w.wallet-frozen.ensures, w.choose-r15.ensures, w.sending_refusal-rest.ensures K) (sym (ap by w.in-Live.is))
+    | in-Closed w ↦ w.by_sender-is ∙ w.choose-by_sender-in-Closed.ensures ∙ sym (ap by w.in-Closed.is)
+    ])
     c.choose.ensures

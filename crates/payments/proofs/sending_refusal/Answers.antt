@@ -35,14 +35,12 @@ limits_refusal-requires c = c.requires.4
 pub limits_refusal-requires-in-Live : goal.limits_refusal-requires-in-Live
 limits_refusal-requires-in-Live c = c.requires.4
 
--- LEFT: c.wallet-balance.result c.wallet-tx_cap.result c.exceeds-over.result
 -- what an arm answers, by what was found
 abbrev by : (c : After-choose-r37) → WalletState → ℕ
 by c =
     by_recipient (limited c.args.s c.wallet-balance.result c.wallet-tx_cap.result c.exceeds-over.result) c.choose-r37.result
     c.choose-r38.result
 
--- LEFT: c.find_wallet-recipient.ensures c.wallet-balance.ensures c.wallet-tx_cap.ensures c.wallet-daily_cap.ensures c.counted-spent.ensures c.exceeds-over.ensures
 answers : (c : After-choose-r37) (x : ℕ) → x ≡ by c c.find_wallet-recipient.result → (K : Ledger)
     → let start = c.args in
     x ≡ first (sending_refusals (ledger_of start.edition start.header.now start.wallets.now start.escrows.now K.receipts start.journal.now) start.s)

@@ -17,29 +17,24 @@ paid-amount-requires c = row_fits _ _ _ _ _ _ _ _ _ c.loop-at.invariant c.loop-a
 pub paid-requires : goal.paid-requires
 paid-requires c = row_fits _ _ _ _ _ _ _ _ _ c.loop-at.invariant c.loop-at-test.true c.requires.0
 
--- LEFT: c.loop-at.invariant c.loop-at-test.true c.paid-amount.ensures
 pub returns-then-paid-amount : goal.returns-then-paid-amount
 returns-then-paid-amount c =
     c.nothing.ensures
     ∙ wrong_row _ _ _ _ _ _ _ _ _ c.loop-at.invariant c.loop-at-test.true _ _ c.paid-amount.ensures
-    c.paid-amount.ensures _ _ c.if-paid-amount.true
+    c.paid.ensures _ _ c.if-paid-amount.true
 
--- LEFT: c.loop-at.invariant
 pub bounds-journal-at : goal.bounds-journal-at
 bounds-journal-at c =
     omega (arith, row_fits _ _ _ _ _ _ _ _ _ c.loop-at.invariant c.loop-at-test.true c.requires.0)
 
--- LEFT: c.loop-at.invariant
 pub uses-requires : goal.uses-requires
 uses-requires c =
     row_fits _ _ _ _ _ _ _ _ _ c.loop-at.invariant c.loop-at-test.true c.requires.0
 
--- LEFT: c.loop-at.invariant
 pub spends-spent-requires : goal.spends-spent-requires
 spends-spent-requires c =
     row_fits _ _ _ _ _ _ _ _ _ c.loop-at.invariant c.loop-at-test.true c.requires.0
 
--- LEFT: c.loop-at.invariant c.loop-at-test.true c.paid-amount.ensures c.day_before-since.ensures
 pub loop-at-preserved : goal.loop-at-preserved
 loop-at-preserved c =
     next _ _ _ _ _ _ _ _ _ c.loop-at.invariant c.loop-at-test.true _ _ c.paid-amount.ensures c.paid.ensures
@@ -49,7 +44,7 @@ loop-at-preserved c =
 pub overflow_add-spent : goal.overflow_add-spent
 overflow_add-spent c =
     let few = c.requires.1 in
-    record { fits = sum_fits _ _ _ _ _ _ _ _ _ (loop_again c) few }
+    record { fits = sum_fits _ _ _ _ _ _ _ _ _ (loop-at-preserved c) few }
 
 pub loop-at-smaller : goal.loop-at-smaller
 loop-at-smaller c = omega (arith, c.loop-at-test.true)

@@ -6,10 +6,8 @@ use Rattle.record.proofs.read_by.Goals as goal
 pub returns-then-bytes-ne-RECORD_BYTES : goal.returns-then-bytes-ne-RECORD_BYTES
 returns-then-bytes-ne-RECORD_BYTES c = read_short _ c.args.bytes.now _ c.malformed.ensures c.if-bytes-ne-RECORD_BYTES.true
 
--- LEFT: c.before.before.before.well-formed-2.ensures
 pub returns-then-bytes-formed : goal.returns-then-bytes-formed
-returns-then-bytes-formed c = read_there _ c.args.bytes.now _ c.if-bytes-ne-RECORD_BYTES.false c.fields-s.ensures c.before.before.before.well-formed-2.ensures c.if-bytes-formed.true
+returns-then-bytes-formed c = read_there _ c.args.bytes.now _ c.if-bytes-ne-RECORD_BYTES.false c.fields-s.ensures c.well_formed-formed.ensures c.if-bytes-formed.true
 
--- LEFT: c.before.before.before.before.well-formed-2.ensures
 pub returns-else-bytes-formed : goal.returns-else-bytes-formed
-returns-else-bytes-formed c = read_malformed _ c.args.bytes.now _ _ c.malformed-else-bytes-formed.ensures c.if-bytes-ne-RECORD_BYTES.false c.fields-s.ensures c.before.before.before.before.well-formed-2.ensures c.if-bytes-formed.false
+returns-else-bytes-formed c = read_malformed _ c.args.bytes.now _ _ c.malformed-else-bytes-formed.ensures c.if-bytes-ne-RECORD_BYTES.false c.fields-s.ensures c.well_formed-formed.ensures c.if-bytes-formed.false

@@ -6,10 +6,8 @@ use Rattle.record.proofs.write_record.Goals as goal
 pub returns-then-out-ne-RECORD_BYTES : goal.returns-then-out-ne-RECORD_BYTES
 returns-then-out-ne-RECORD_BYTES c = write_short c.args.s c.args.out.now c.if-out-ne-RECORD_BYTES.true
 
--- LEFT: c.before.before.before.before.before.well-formed-2.ensures
 pub returns-then-well_formed : goal.returns-then-well_formed
-returns-then-well_formed c = write_there c.args.s c.args.out.now _ c.if-out-ne-RECORD_BYTES.false c.before.before.before.before.before.well-formed-2.ensures c.if-well_formed.true c.put_fields.ensures
+returns-then-well_formed c = write_there c.args.s c.args.out.now _ c.if-out-ne-RECORD_BYTES.false c.well_formed-2.ensures c.if-well_formed.true c.put_fields.ensures
 
--- LEFT: c.before.well-formed-2.ensures
 pub returns-else-well_formed : goal.returns-else-well_formed
-returns-else-well_formed c = write_malformed c.args.s c.args.out.now c.if-out-ne-RECORD_BYTES.false c.before.well-formed-2.ensures c.if-well_formed.false
+returns-else-well_formed c = write_malformed c.args.s c.args.out.now c.if-out-ne-RECORD_BYTES.false c.well_formed-2.ensures c.if-well_formed.false

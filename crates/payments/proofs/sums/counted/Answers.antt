@@ -13,12 +13,10 @@ loop-i-init c = (omega arith, sym (counted_none _ _ _))
 pub overflow_add-recent-in-loop-i : goal.overflow_add-recent-in-loop-i
 overflow_add-recent-in-loop-i c = omega (arith, c.requires.times c.loop-i.i (search rules))
 
--- LEFT: c.loop-i.i c.loop-i.invariant.1
 pub overflow_add-sum : goal.overflow_add-sum
 overflow_add-sum c =
     record { fits = counted_fits _ _ _ _ c.requires c.loop-i.i _ _ (search rules) c.loop-i.invariant.1 c.choose-sum.ensures }
 
--- LEFT: c.loop-i.i c.loop-i.invariant.1
 pub loop-i-preserved : goal.loop-i-preserved
 loop-i-preserved c =
     (search rules, counted_next _ _ _ c.loop-i.i _ _ c.loop-i.invariant.1 c.choose-sum.ensures)

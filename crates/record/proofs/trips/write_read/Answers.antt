@@ -3,10 +3,9 @@ use Rattle.record.proofs.Back.{trip_of_fields}
 use borrow.Author.Rules.{rules}
 use Rattle.record.proofs.trips.write_read.Goals as goal
 
--- LEFT: c.before.before.before.before.before.before.before.well-formed.0.1 c.before.before.before.before.write-record.ensures
 pub returns : goal.returns
 returns c =
-    let t = c.before.before.before.before.before.before.before.well-formed.0.1 in
+    let t = c.well_formed.0.1 in
     trip_of_fields _ _ _ _ _ (record {
       op = t.1.0.1;
       flags = t.1.1.0.1;
@@ -23,4 +22,4 @@ returns c =
       hash1 = t.1.1.1.1.1.1.1.1.1.1.1.1.1.0.1;
       hash2 = t.1.1.1.1.1.1.1.1.1.1.1.1.1.1.0.1;
       hash3 = t.1.1.1.1.1.1.1.1.1.1.1.1.1.1.1.0.1;
-    }) c.before.before.before.before.write-record.ensures c.read_record.ensures
+    }) c.write_record.ensures c.read_record.ensures
