@@ -34,7 +34,7 @@ def blocks(text):
 
     def name_of(line):
         m = re.match(r"(?:abbrev |unfoldable |pub |data |record )*([^\s:(){}]+)\s", line + " ")
-        return m[1]
+        return m[1] if m else None
 
     pending, current = [], None
     for line in lines:
@@ -54,7 +54,7 @@ def blocks(text):
             if line.startswith("unfolding "):
                 current[1].append(line)
                 continue
-            if current and current[0] == n:
+            if current and n in (current[0], None):
                 current[1].append(line)
             else:
                 if current:
@@ -95,6 +95,12 @@ class Names:
 
     def step(self, place):
         return self.places[place][1]
+
+    def params_of(self, new_step):
+        for p in self.d["places"]:
+            if p[2][1] == new_step and p[3]:
+                return self.d["params"].get(p[3], [])
+        return []
 
     def callee(self, place):
         return self.places[place][3]
@@ -195,12 +201,12 @@ def turn_one(text, var, place, N, goal, left, c, own):
                             more = parts[len(path):]
                             return f"\x01.{arm[0]}.{word}" + "".join("." + x for x in more)
                 callee = N.callee(a)
-                auto = re.match(r"\.auto\.(\d+)(.*)", rest)
+                auto = re.match(r"\.auto((?:\.1)*)\.0(.*)", rest)
                 if callee and auto:
-                    lent = LENT.get(callee, [])
-                    k = int(auto[1])
-                    if k < len(lent):
-                        rest = f".auto.{lent[k]}{auto[2]}"
+                    ps = N.d["params"].get(callee, [])
+                    k = auto[1].count(".1")
+                    if k < len(ps):
+                        rest = f".auto.{ps[k]}{auto[2]}"
                 return f"\x01.{new}{rest}"
             a = N.places[a][0]
         if var != c or f not in N.new_steps:
@@ -351,6 +357,10 @@ def convert(path, N, module):
             extra = hm[1].split()[1:] if hm else []
             note = [f"-- LEFT: {' '.join(left)}"] if left else []
             note += [f"-- LEFT: arguments {extra}"] if [x for x in extra if x != "κs"] else []
+            for am in list(re.finditer(r"let ([^\s=():]+) = " + re.escape(var) + r"\.([^\s.]+) in", body)):
+                ps = N.params_of(am[2])
+                if ps:
+                    body = re.sub(r"(?<![\w.])" + re.escape(am[1]) + r"\.auto((?:\.1)*)\.0(?!\d)", lambda z: f"{am[1]}.auto.{ps[z[1].count('.1')]}", body)
             ans_out.append("\n".join(note + com + [f"pub {g} : goal.{g}", f"{unf}{g} {var} ={body}"]))
             continue
         # a helper

@@ -3,7 +3,7 @@
 #![tactic(auto)]
 
 ghost use Rattle.std.specs.Prelude.{◌≡◌, ℕ, ◌-◌, ◌<◌, ◌≤◌, ◌^◌, get_or};
-ghost use Rattle.rules.specs.Limits.{ESCROWS};
+ghost use Rattle.rules.specs.Limits;
 ghost use Rattle.rules.specs.Table.{loop};
 ghost use Rattle.rules.specs.Ledger.{Ledger, outcome};
 ghost use Rattle.rules.specs.Moments.{tables, any, ◌of_edition◌, ◌with_header◌, ◌with_escrows◌, ◌with_receipts◌, ◌seeing_header◌, ◌seeing_escrows◌, ◌seeing_receipts◌};
@@ -164,7 +164,7 @@ fn escrow_turn(edition: Edition, escrows: &[u64], number: EscrowNumber, time: u6
 // them nor after.
 fn escrow_turns(edition: Edition, header: &[u64], escrows: &[u64], time: u64, limit: u64) -> u64
     requires { Expires edition header.now escrows.now time }
-    ensures { (K : Ledger) (S : Sweep) (released : ℕ) → let L = any K of_edition edition seeing_header header seeing_escrows escrows in Receipted L.entry time limit released S → Ended L.entry released result (loop (get_or header.now ESCROWS 0) (sweep_escrow time) S).tables }
+    ensures { (K : Ledger) (S : Sweep) (released : ℕ) → let L = any K of_edition edition seeing_header header seeing_escrows escrows in Receipted L.entry time limit released S → Ended L.entry released result (loop (get_or header.now Limits.ESCROWS 0) (sweep_escrow time) S).tables }
 {
     let written = header[ESCROWS];
     let mut rows = 0;

@@ -2,7 +2,7 @@
 #![tactic(auto)]
 
 ghost use Rattle.std.specs.Prelude.{◌≡◌, ◌+◌, ◌≤◌, length};
-ghost use Rattle.rules.specs.Limits.{ENTRY_BYTES};
+ghost use Rattle.rules.specs.Limits;
 ghost use Rattle.rules.specs.Convert.{new_operation, new_flags, converted_at, converted};
 
 use rules::Form;
@@ -31,7 +31,7 @@ fn new_flags(old: u8, flags: u8) -> u8
 
 // One entry. Its answer and the rest of its record stay.
 fn convert_at(recording: &mut [u8], at: usize)
-    requires { at + ENTRY_BYTES ≤ length recording.old }
+    requires { at + Limits.ENTRY_BYTES ≤ length recording.old }
     ensures { recording.new ≡ converted_at at recording.old }
 {
     let end = at + RECORD_BYTES;

@@ -3,8 +3,8 @@
 #![tactic(auto)]
 
 ghost use Rattle.std.specs.Prelude.{◌≡◌, length};
+ghost use Rattle.rules.specs.Limits;
 ghost use Rattle.rules.specs.Ledger.{Ledger, Sized};
-ghost use Rattle.rules.specs.Limits.{RECORD_BYTES};
 ghost use Rattle.rules.specs.Moments.{tables, lent, any, ◌of_edition◌, ◌with_header◌, ◌with_escrows◌, ◌with_receipts◌};
 ghost use Rattle.rules.specs.Report.{report_of, adds_of};
 ghost use Rattle.rules.specs.Settle.{settle};
@@ -73,7 +73,7 @@ pub fn count_entry(
     figures: &mut [u64; FIGURES],
     named: &mut [u64; NAMED],
 ) -> [[u64; ANSWERS]; GRID_ROWS]
-    requires { Sized edition × Ready (tables edition header wallets escrows receipts journal) × (length bytes.now ≡ RECORD_BYTES) }
+    requires { Sized edition × Ready (tables edition header wallets escrows receipts journal) × (length bytes.now ≡ Limits.RECORD_BYTES) }
     ensures { let L = lent edition header wallets escrows receipts journal in turned (report_of result figures.new named.new) L.exit ≡ turn (report_of grid figures.old named.old) L.entry bytes.now }
 {
     let decided = editions::decide(edition, header, wallets, escrows, receipts, journal, bytes);

@@ -2,7 +2,7 @@
 #![tactic(auto)]
 
 ghost use Rattle.std.specs.Prelude.{◌≡◌, ◌*◌, ◌≤◌, ◌<◌, get_or, length};
-ghost use Rattle.rules.specs.Limits.{JOURNAL_LEN, ENTRIES, LAST_TIME_MS, LAST_OPERATION};
+ghost use Rattle.rules.specs.Limits;
 ghost use Rattle.rules.specs.Ledger.{Ledger};
 ghost use Rattle.rules.specs.Moments.{any, ◌seeing_header◌, ◌seeing_journal◌};
 ghost use Rattle.rules.specs.Refusals.{first, seen_in, envelope_refusals};
@@ -15,7 +15,7 @@ use rules::limits::{
 
 // Whether one of the first n journal rows has signer and nonce. The newest is looked at first, as nearly every retry comes within a minute.
 pub fn seen(journal: &[u64], n: usize, signer: u64, nonce: u64) -> bool
-    requires { n * JOURNAL_LEN ≤ length journal.now }
+    requires { n * Limits.JOURNAL_LEN ≤ length journal.now }
     ensures { result ≡ seen_in journal.now n signer nonce }
 {
     // no return from the loop: with one, the compiler puts a branch between the two comparisons, and it is guessed wrong where a signer has many rows
@@ -31,7 +31,7 @@ pub fn seen(journal: &[u64], n: usize, signer: u64, nonce: u64) -> bool
 
 // The first of checks 4 to 11 that holds, or 0. Each condition is worked out, whether or not an earlier one holds.
 pub fn envelope_refusal(header: &[u64], journal: &[u64], s: Submission) -> u64
-    requires { (ENTRIES < length header.now) × (get_or header.now ENTRIES 0 * JOURNAL_LEN ≤ length journal.now) × (1 ≤ s.op) × (s.op ≤ LAST_OPERATION) × (s.now ≤ LAST_TIME_MS) × (s.issued ≤ LAST_TIME_MS) }
+    requires { (Limits.ENTRIES < length header.now) × (get_or header.now Limits.ENTRIES 0 * Limits.JOURNAL_LEN ≤ length journal.now) × (1 ≤ s.op) × (s.op ≤ Limits.LAST_OPERATION) × (s.now ≤ Limits.LAST_TIME_MS) × (s.issued ≤ Limits.LAST_TIME_MS) }
     ensures { (K : Ledger) → let L = any K seeing_header header seeing_journal journal in result ≡ first (envelope_refusals L.entry s) }
 {
     let clock = header[CLOCK];

@@ -3,7 +3,7 @@
 #![tactic(auto)]
 
 ghost use Rattle.std.specs.Prelude.{◌≡◌, ◌*◌, ◌≤◌, ◌<◌, get_or, length};
-ghost use Rattle.rules.specs.Limits.{WALLET_LEN, WALLETS};
+ghost use Rattle.rules.specs.Limits;
 ghost use Rattle.finding.specs.Parties.{look_up_if, parties_of};
 
 use rules::limits::{CAPS, CLAIM, CLOSE, FREEZE, GRANT, OPEN, TRANSFER, WALLETS};
@@ -18,7 +18,7 @@ pub struct Parties {
 
 // The wallet of an id, if it is asked for.
 fn find_if(asked: bool, wallets: &[u64], n: usize, id: u64) -> WalletState
-    requires { n * WALLET_LEN ≤ length wallets.now }
+    requires { n * Limits.WALLET_LEN ≤ length wallets.now }
     ensures { result ≡ look_up_if asked wallets.now n id }
 {
     if asked {
@@ -30,7 +30,7 @@ fn find_if(asked: bool, wallets: &[u64], n: usize, id: u64) -> WalletState
 
 // Each wallet that the record names, by a search of its own.
 pub fn find_parties(header: &[u64], wallets: &[u64], s: Submission) -> Parties
-    requires { (WALLETS < length header.now) × (get_or header.now WALLETS 0 * WALLET_LEN ≤ length wallets.now) }
+    requires { (Limits.WALLETS < length header.now) × (get_or header.now Limits.WALLETS 0 * Limits.WALLET_LEN ≤ length wallets.now) }
     ensures { result ≡ parties_of header.now wallets.now s }
 {
     let n = header[WALLETS] as usize;

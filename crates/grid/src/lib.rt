@@ -3,7 +3,7 @@
 #![tactic(auto)]
 
 ghost use Rattle.std.specs.Prelude.{◌≡◌, [], ◌∷◌, ◌++◌, ℕ, ◌+◌, ◌≤◌, ◌<◌, get_or};
-ghost use Rattle.rules.specs.Limits.{GRID_ROWS, ANSWERS, LAST_FIGURE, FIGURES};
+ghost use Rattle.rules.specs.Limits;
 ghost use Rattle.rules.specs.Report.{cell, raised, grid_row, sums, first_past};
 
 use rules::limits::{
@@ -25,7 +25,7 @@ pub fn row_of(op: u8) -> usize
 
 // The count in a cell.
 pub fn count(grid: [[u64; ANSWERS]; GRID_ROWS], row: usize, column: usize) -> u64
-    requires { (row < GRID_ROWS) × (column < ANSWERS) }
+    requires { (row < Limits.GRID_ROWS) × (column < Limits.ANSWERS) }
     ensures { result ≡ cell grid row column }
 {
     grid[row][column]
@@ -37,7 +37,7 @@ pub fn raise(
     row: usize,
     column: usize,
 ) -> [[u64; ANSWERS]; GRID_ROWS]
-    requires { (row < GRID_ROWS) × (column < ANSWERS) × (cell grid row column + 1 ≤ LAST_FIGURE) }
+    requires { (row < Limits.GRID_ROWS) × (column < Limits.ANSWERS) × (cell grid row column + 1 ≤ Limits.LAST_FIGURE) }
     ensures { result ≡ raised grid row column }
 {
     let mut next = grid;
@@ -69,7 +69,7 @@ pub fn passing(figures: [u64; FIGURES], adds: [u64; FIGURES], count: u64) -> u64
 
 // The figures with what is added.
 pub fn summed(figures: [u64; FIGURES], adds: [u64; FIGURES]) -> [u64; FIGURES]
-    requires { (k : ℕ) → k < FIGURES → get_or figures k 0 + get_or adds k 0 ≤ LAST_FIGURE }
+    requires { (k : ℕ) → k < Limits.FIGURES → get_or figures k 0 + get_or adds k 0 ≤ Limits.LAST_FIGURE }
     ensures { result ≡ sums figures adds }
 {
     [

@@ -2,8 +2,7 @@
 #![tactic(auto)]
 
 ghost use Rattle.std.specs.Prelude.{◌≡◌, ◌⊎◌, ◌*◌, ◌≤◌, ◌<◌, get_or, length};
-ghost use Rattle.rules.specs.Limits.{WALLET_LEN, MAX_ESCROWS, MAX_RECEIPTS, LAST_TIME_MS, RELEASE, REFUND, CLAIM, REPLY};
-ghost use Rattle.rules.specs.Limits.{WALLETS, ESCROWS, RECEIPTS, ENTRIES};
+ghost use Rattle.rules.specs.Limits;
 ghost use Rattle.rules.specs.Ledger.{Ledger, Sized};
 ghost use Rattle.rules.specs.Moments.{any, ◌of_edition◌, shown, ◌seeing_header◌, ◌seeing_escrows◌, ◌seeing_receipts◌, ◌seeing_journal◌};
 ghost use Rattle.rules.specs.Refusals.{first, operation_refusals};
@@ -47,7 +46,7 @@ pub fn closing_refusal(
     journal: &[u64],
     s: Submission,
 ) -> u64
-    requires { (ENTRIES < length header.now) × (get_or header.now ESCROWS 0 ≤ MAX_ESCROWS) × ((s.op ≡ RELEASE) ⊎ (s.op ≡ REFUND)) × Sized edition }
+    requires { (Limits.ENTRIES < length header.now) × (get_or header.now Limits.ESCROWS 0 ≤ Limits.MAX_ESCROWS) × ((s.op ≡ Limits.RELEASE) ⊎ (s.op ≡ Limits.REFUND)) × Sized edition }
     ensures { (K : Ledger) → let L = any K of_edition edition seeing_header header seeing_escrows escrows seeing_journal journal in result ≡ first (operation_refusals L.entry s) }
 {
     let count = header[ESCROWS];
@@ -75,7 +74,7 @@ fn terms_refusal(
     journal: &[u64],
     s: Submission,
 ) -> u64
-    requires { (ENTRIES < length header.now) × (get_or header.now ESCROWS 0 ≤ MAX_ESCROWS) × (s.issued ≤ LAST_TIME_MS) × Sized edition }
+    requires { (Limits.ENTRIES < length header.now) × (get_or header.now Limits.ESCROWS 0 ≤ Limits.MAX_ESCROWS) × (s.issued ≤ Limits.LAST_TIME_MS) × Sized edition }
     ensures { (K : Ledger) → let L = any K of_edition edition seeing_header header seeing_escrows escrows seeing_receipts receipts seeing_journal journal in result ≡ first (term_refusals L.entry s) }
 {
     let held = header[ESCROWS];
@@ -118,7 +117,7 @@ pub fn claim_refusal(
     journal: &[u64],
     s: Submission,
 ) -> u64
-    requires { (ENTRIES < length header.now) × (get_or header.now ESCROWS 0 ≤ MAX_ESCROWS) × (get_or header.now WALLETS 0 * WALLET_LEN ≤ length wallets.now) × (s.issued ≤ LAST_TIME_MS) × (s.op ≡ CLAIM) × Sized edition }
+    requires { (Limits.ENTRIES < length header.now) × (get_or header.now Limits.ESCROWS 0 ≤ Limits.MAX_ESCROWS) × (get_or header.now Limits.WALLETS 0 * Limits.WALLET_LEN ≤ length wallets.now) × (s.issued ≤ Limits.LAST_TIME_MS) × (s.op ≡ Limits.CLAIM) × Sized edition }
     ensures { result ≡ first (operation_refusals (shown edition header wallets escrows receipts journal).entry s) }
 {
     if (s.target == 0) | (s.target == s.signer) {
@@ -144,7 +143,7 @@ pub fn claim_refusal(
 
 // A reply, an accept or a dispute: checks 32, 33, 34, 41, 35, 40, in this order. A dispute alone needs a reason.
 pub fn reply_refusal(header: &[u64], receipts: &[u64], journal: &[u64], s: Submission) -> u64
-    requires { (ENTRIES < length header.now) × (get_or header.now RECEIPTS 0 ≤ MAX_RECEIPTS) × (s.op ≡ REPLY) }
+    requires { (Limits.ENTRIES < length header.now) × (get_or header.now Limits.RECEIPTS 0 ≤ Limits.MAX_RECEIPTS) × (s.op ≡ Limits.REPLY) }
     ensures { (K : Ledger) → let L = any K seeing_header header seeing_receipts receipts seeing_journal journal in result ≡ first (operation_refusals L.entry s) }
 {
     let count = header[RECEIPTS];

@@ -3,9 +3,10 @@
 #![tactic(auto)]
 
 ghost use Rattle.std.specs.Prelude.{◌≡◌, true, ◌+◌, ◌*◌, ◌≤◌, ◌<◌, length};
-ghost use Rattle.rules.specs.Limits.{WALLET_LEN, MAX_WALLETS};
+ghost use Rattle.rules.specs.Limits;
+ghost use Rattle.index.specs.Index;
 ghost use Rattle.rules.specs.Table.{every, distinct};
-ghost use Rattle.index.specs.Index.{NUMBERS, id_at, differs, Copied, Within, Seated, Filled, Hit, Indexed, number_of, sender_of};
+ghost use Rattle.index.specs.Index.{id_at, differs, Copied, Within, Seated, Filled, Hit, Indexed, number_of, sender_of};
 
 use rules::limits::{ID, MAX_WALLETS, WALLET_LEN};
 use rules::{WalletNumber, WalletState};
@@ -34,7 +35,7 @@ fn wide(x: u16) -> usize
 
 // The ids of the first n wallets, each at its number.
 pub fn copy_ids(w: &[u64], n: usize, ids: &mut [u64; NUMBERS])
-    requires { (n * WALLET_LEN ≤ length w.now) × (n ≤ MAX_WALLETS) × (length ids.old ≡ NUMBERS) }
+    requires { (n * Limits.WALLET_LEN ≤ length w.now) × (n ≤ Limits.MAX_WALLETS) × (length ids.old ≡ Index.NUMBERS) }
     ensures { Copied w.now n ids.new }
 {
     let mut i: usize = 0;
@@ -46,7 +47,7 @@ pub fn copy_ids(w: &[u64], n: usize, ids: &mut [u64; NUMBERS])
 
 // Whether no row before row i has its id.
 fn differs_before(ids: &[u64; NUMBERS], i: usize) -> bool
-    requires { i < MAX_WALLETS }
+    requires { i < Limits.MAX_WALLETS }
     ensures { result ≡ every i (differs ids.now i) }
 {
     let x = ids[i + 1];
@@ -59,7 +60,7 @@ fn differs_before(ids: &[u64; NUMBERS], i: usize) -> bool
 
 // Whether the ids of the first n rows differ, by comparing each two.
 fn differ_each(ids: &[u64; NUMBERS], n: usize) -> bool
-    requires { n ≤ MAX_WALLETS }
+    requires { n ≤ Limits.MAX_WALLETS }
     ensures { result ≡ distinct n (id_at ids.now) }
 {
     let mut ok = true;
@@ -78,7 +79,7 @@ struct Seat {
 
 // The seat of the id x, where the index has n wallets.
 fn seat_for(ids: &[u64; NUMBERS], t: &[u16; PLACES], n: usize, x: u64) -> Seat
-    requires { (n ≤ MAX_WALLETS) × Within n t.now }
+    requires { (n ≤ Limits.MAX_WALLETS) × Within n t.now }
     ensures { Seated ids.now t.now x result.place result.left }
 {
     let mut p = x as usize % ROOTS;
@@ -105,7 +106,7 @@ fn seat_for(ids: &[u64; NUMBERS], t: &[u16; PLACES], n: usize, x: u64) -> Seat
 // Gives each of the first n wallets its place in the index, which is empty before. The answer is 0 where two have the same id; else the most
 // steps that a walk takes. That ids differ is shown by the index itself: the walk of each id comes to its own number.
 pub fn fill(ids: &[u64; NUMBERS], t: &mut [u16; PLACES], n: usize) -> usize
-    requires { (n ≤ MAX_WALLETS) × Within 0 t.old }
+    requires { (n ≤ Limits.MAX_WALLETS) × Within 0 t.old }
     ensures { Filled ids.now n t.new result }
 {
     let mut most: usize = 1;
@@ -138,7 +139,7 @@ fn root(t: &[u16; PLACES], n: usize, y: usize) -> usize
 }
 
 fn branch(t: &[u16; PLACES], n: usize, s: usize, y: usize) -> usize
-    requires { (n ≤ MAX_WALLETS) × (s ≤ n) × Within n t.now }
+    requires { (n ≤ Limits.MAX_WALLETS) × (s ≤ n) × Within n t.now }
     ensures { result ≤ n }
 {
     wide(t[ROOTS + s * BRANCHES + y % BRANCHES])
@@ -146,7 +147,7 @@ fn branch(t: &[u16; PLACES], n: usize, s: usize, y: usize) -> usize
 
 // What the index proposes for the id x, by the first steps of its walk; 0 for nothing.
 fn near(ids: &[u64; NUMBERS], t: &[u16; PLACES], n: usize, x: u64) -> usize
-    requires { (n ≤ MAX_WALLETS) × Within n t.now }
+    requires { (n ≤ Limits.MAX_WALLETS) × Within n t.now }
     ensures { Hit ids.now n x result }
 {
     let a = root(t, n, x as usize);
@@ -172,7 +173,7 @@ fn near(ids: &[u64; NUMBERS], t: &[u16; PLACES], n: usize, x: u64) -> usize
 // The same by every step that a walk can take, with no branch that depends on the id: a branch that the ids make hard to foresee would cost
 // more than the steps it saves.
 fn far(ids: &[u64; NUMBERS], t: &[u16; PLACES], n: usize, x: u64) -> usize
-    requires { (n ≤ MAX_WALLETS) × Within n t.now }
+    requires { (n ≤ Limits.MAX_WALLETS) × Within n t.now }
     ensures { Hit ids.now n x result }
 {
     let mut s = root(t, n, x as usize);
@@ -208,7 +209,7 @@ fn look_on(w: &[u64], ids: &[u64; NUMBERS], t: &[u16; PLACES], n: usize, x: u64)
 
 // What the index proposes by the first steps, if no walk takes more.
 fn proposed(ids: &[u64; NUMBERS], t: &[u16; PLACES], n: usize, most: usize, x: u64) -> usize
-    requires { (n ≤ MAX_WALLETS) × Within n t.now }
+    requires { (n ≤ Limits.MAX_WALLETS) × Within n t.now }
     ensures { Hit ids.now n x result }
 {
     if most <= NEAR { near(ids, t, n, x) } else { 0 }

@@ -3,7 +3,7 @@
 #![tactic(auto)]
 
 ghost use Rattle.std.specs.Prelude.{◌≡◌, cond, ◌+◌, ◌-◌, ◌*◌, ◌<◌, ◌≤◌, ◌^◌, length, get_or, set, eqb};
-ghost use Rattle.rules.specs.Limits.{WALLET_LEN, ESCROW_STATE, ESCROW_CLOSED_AT, ESCROW_CLOSED_BY, RELEASED};
+ghost use Rattle.rules.specs.Limits;
 ghost use Rattle.rules.specs.Table.{word, put_row};
 ghost use Rattle.rules.specs.Ledger.{Ledger, row_of, put_escrow};
 ghost use Rattle.rules.specs.Moments.{any, ◌of_edition◌, ◌with_header◌, ◌with_wallets◌, ◌with_escrows◌, ◌with_receipts◌, ◌seeing_header◌, ◌seeing_escrows◌};
@@ -34,7 +34,7 @@ pub fn append(header: &mut [u64], t: &mut [u64], len: usize, count: usize, words
 
 // More in word k of a wallet.
 pub fn raise(wallets: &mut [u64], number: WalletNumber, k: usize, amount: u64)
-    requires { Names number.0 × (k < 2 ^ 16) × (word wallets.old WALLET_LEN (number.0 - 1) k + amount < 2 ^ 64) }
+    requires { Names number.0 × (k < 2 ^ 16) × (word wallets.old Limits.WALLET_LEN (number.0 - 1) k + amount < 2 ^ 64) }
     ensures { wallets.new ≡ more wallets.old (number.0 - 1) k amount }
 {
     let had = numbered::wallet(wallets, number, k);
@@ -84,7 +84,7 @@ pub fn ensure_wallet(header: &mut [u64], wallets: &mut [u64], id: u64) -> Wallet
 // The wallet of a party to an escrow, live or closed: a sound ledger does not ask a closed one to be empty, so what ends treats its row as any other.
 // A sound ledger has it; where it is missing, the definitions look behind the last row.
 fn party(wallets: &[u64], written: usize, id: u64) -> WalletNumber
-    requires { written * WALLET_LEN ≤ length wallets.now }
+    requires { written * Limits.WALLET_LEN ≤ length wallets.now }
     ensures { result.0 ≡ row_of wallets.now written id + 1 }
 {
     let found = numbered::find_wallet(wallets, written, id);
@@ -104,8 +104,8 @@ fn payee(
     from: u64,
     to: u64,
 ) -> WalletNumber
-    requires { (written * WALLET_LEN ≤ length wallets.now) × (sender.0 ≡ row_of wallets.now written from + 1) }
-    ensures { result.0 ≡ row_of wallets.now written (cond (eqb state RELEASED) to from) + 1 }
+    requires { (written * Limits.WALLET_LEN ≤ length wallets.now) × (sender.0 ≡ row_of wallets.now written from + 1) }
+    ensures { result.0 ≡ row_of wallets.now written (cond (eqb state Limits.RELEASED) to from) + 1 }
 {
     if state == RELEASED {
         party(wallets, written, to)
@@ -124,7 +124,7 @@ fn close_escrow(
     signer: u64,
 )
     requires { Names number.0 × (edition.escrow < 2 ^ 16) }
-    ensures { (K : Ledger) → let L = any K of_edition edition with_escrows escrows in L.exit ≡ put_escrow (number.0 - 1) ESCROW_CLOSED_BY signer (put_escrow (number.0 - 1) ESCROW_CLOSED_AT time (put_escrow (number.0 - 1) ESCROW_STATE state L.entry)) }
+    ensures { (K : Ledger) → let L = any K of_edition edition with_escrows escrows in L.exit ≡ put_escrow (number.0 - 1) Limits.ESCROW_CLOSED_BY signer (put_escrow (number.0 - 1) Limits.ESCROW_CLOSED_AT time (put_escrow (number.0 - 1) Limits.ESCROW_STATE state L.entry)) }
 {
     numbered::set_escrow(edition, escrows, number, ESCROW_STATE, state);
     numbered::set_escrow(edition, escrows, number, ESCROW_CLOSED_AT, time);

@@ -3,7 +3,7 @@
 #![tactic(auto)]
 
 ghost use Rattle.std.specs.Prelude.{◌≡◌, ◌-◌};
-ghost use Rattle.rules.specs.Limits.{AUTO_OR_FREEZE};
+ghost use Rattle.rules.specs.Limits;
 ghost use Rattle.rules.specs.Ledger.{Ledger};
 ghost use Rattle.rules.specs.Moments.{any, ◌of_edition◌, ◌with_header◌, ◌with_wallets◌, ◌with_escrows◌, ◌with_receipts◌, ◌seeing_header◌};
 ghost use Rattle.rules.specs.Record.{bit};
@@ -100,7 +100,7 @@ pub fn close_escrow(
 
 // Bit 2 of the flags: auto-accept, or freeze.
 fn auto_or_freeze(flags: u8) -> u64
-    ensures { result ≡ bit AUTO_OR_FREEZE flags }
+    ensures { result ≡ bit Limits.AUTO_OR_FREEZE flags }
 {
     (flags / AUTO_OR_FREEZE % 2) as u64
 }

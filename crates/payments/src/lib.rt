@@ -2,7 +2,7 @@
 #![tactic(auto)]
 
 ghost use Rattle.std.specs.Prelude.{◌≡◌, ◌⊎◌, ◌+◌, ◌*◌, ◌≤◌, ◌<◌, get_or, length};
-ghost use Rattle.rules.specs.Limits.{WALLET_LEN, MAX_WALLETS, LAST_TIME_MS, WALLETS, ENTRIES, GRANT, TRANSFER, OPEN};
+ghost use Rattle.rules.specs.Limits;
 ghost use Rattle.rules.specs.Ledger.{Ledger, Sized, row_of};
 ghost use Rattle.rules.specs.Moments.{any, ◌of_edition◌, ◌seeing_header◌, ◌seeing_wallets◌, ◌seeing_escrows◌, ◌seeing_journal◌};
 ghost use Rattle.rules.specs.Refusals.{first, operation_refusals};
@@ -19,7 +19,7 @@ pub mod sums;
 
 // A grant: checks 12, 15, 43, 36, 37, 40, in this order.
 pub fn grant_refusal(header: &[u64], wallets: &[u64], journal: &[u64], s: Submission) -> u64
-    requires { (ENTRIES < length header.now) × (get_or header.now WALLETS 0 * WALLET_LEN ≤ length wallets.now) × (s.op ≡ GRANT) }
+    requires { (Limits.ENTRIES < length header.now) × (get_or header.now Limits.WALLETS 0 * Limits.WALLET_LEN ≤ length wallets.now) × (s.op ≡ Limits.GRANT) }
     ensures { (K : Ledger) → let L = any K seeing_header header seeing_wallets wallets seeing_journal journal in result ≡ first (operation_refusals L.entry s) }
 {
     let granted = header[GRANTED];
@@ -45,7 +45,7 @@ pub fn grant_refusal(header: &[u64], wallets: &[u64], journal: &[u64], s: Submis
 
 // Checks 17 to 21 of a live sender, by what was found of it, and then the rest.
 fn limits_refusal(s: Submission, balance: u64, tx_cap: u64, over: bool, rest: u64) -> u64
-    requires { s.now ≤ LAST_TIME_MS }
+    requires { s.now ≤ Limits.LAST_TIME_MS }
     ensures { result ≡ limited s balance tx_cap over rest }
 {
     let opens = s.op == OPEN;
@@ -70,7 +70,7 @@ fn sending_refusal(
     s: Submission,
     sender: WalletNumber,
 ) -> u64
-    requires { (ENTRIES < length header.now) × (get_or header.now WALLETS 0 ≤ MAX_WALLETS) × (get_or header.now WALLETS 0 * WALLET_LEN ≤ length wallets.now) × Entries journal.now (get_or header.now ENTRIES 0) × (s.now ≤ LAST_TIME_MS) × Sized edition × (sender.0 ≡ row_of wallets.now (get_or header.now WALLETS 0) s.signer + 1) }
+    requires { (Limits.ENTRIES < length header.now) × (get_or header.now Limits.WALLETS 0 ≤ Limits.MAX_WALLETS) × (get_or header.now Limits.WALLETS 0 * Limits.WALLET_LEN ≤ length wallets.now) × Entries journal.now (get_or header.now Limits.ENTRIES 0) × (s.now ≤ Limits.LAST_TIME_MS) × Sized edition × (sender.0 ≡ row_of wallets.now (get_or header.now Limits.WALLETS 0) s.signer + 1) }
     ensures { (K : Ledger) → let L = any K of_edition edition seeing_header header seeing_wallets wallets seeing_escrows escrows seeing_journal journal in result ≡ first (sending_refusals L.entry s) }
 {
     let count = header[WALLETS] as usize;
@@ -105,7 +105,7 @@ pub fn paying_refusal(
     journal: &[u64],
     s: Submission,
 ) -> u64
-    requires { (ENTRIES < length header.now) × (get_or header.now WALLETS 0 ≤ MAX_WALLETS) × (get_or header.now WALLETS 0 * WALLET_LEN ≤ length wallets.now) × Entries journal.now (get_or header.now ENTRIES 0) × (s.now ≤ LAST_TIME_MS) × ((s.op ≡ TRANSFER) ⊎ (s.op ≡ OPEN)) × Sized edition }
+    requires { (Limits.ENTRIES < length header.now) × (get_or header.now Limits.WALLETS 0 ≤ Limits.MAX_WALLETS) × (get_or header.now Limits.WALLETS 0 * Limits.WALLET_LEN ≤ length wallets.now) × Entries journal.now (get_or header.now Limits.ENTRIES 0) × (s.now ≤ Limits.LAST_TIME_MS) × ((s.op ≡ Limits.TRANSFER) ⊎ (s.op ≡ Limits.OPEN)) × Sized edition }
     ensures { (K : Ledger) → let L = any K of_edition edition seeing_header header seeing_wallets wallets seeing_escrows escrows seeing_journal journal in result ≡ first (operation_refusals L.entry s) }
 {
     let count = header[WALLETS] as usize;

@@ -5,7 +5,7 @@
 #![tactic(auto)]
 
 ghost use Rattle.std.specs.Prelude.{◌≡◌, false, cond, ◌&&◌, ◌||◌, ◌+◌, ◌-◌, ◌*◌, ◌≤◌, eqb, leb, get_or, length};
-ghost use Rattle.rules.specs.Limits.{JOURNAL_LEN, MAX_ENTRIES, DAY_MS, TRANSFER, OPEN, SIGNER, NONCE, OPERATION, ENTRY_AMOUNT, SETTLED_AT};
+ghost use Rattle.rules.specs.Limits;
 ghost use Rattle.rules.specs.Table.{all, every};
 ghost use Rattle.rules.specs.Sound.{entry_tests};
 ghost use Rattle.rules.specs.Refusals.{seen_in, counted_of};
@@ -42,15 +42,15 @@ pub fn nothing() -> Looked
 
 // The earliest time that is not older than 24 hours at the clock.
 fn day_before(clock: u64) -> u64
-    ensures { result ≡ clock - DAY_MS }
+    ensures { result ≡ clock - Limits.DAY_MS }
 {
     if clock < DAY_MS { 0 } else { clock - DAY_MS }
 }
 
 // The amount of the row that starts at a place, if it is a transfer or an open; `other` of any other row.
 fn paid(journal: &[u64], at: usize, other: u64) -> u64
-    requires { at + JOURNAL_LEN ≤ length journal.now }
-    ensures { result ≡ cond (eqb (get_or journal.now (at + OPERATION) 0) TRANSFER || eqb (get_or journal.now (at + OPERATION) 0) OPEN) (get_or journal.now (at + ENTRY_AMOUNT) 0) other }
+    requires { at + Limits.JOURNAL_LEN ≤ length journal.now }
+    ensures { result ≡ cond (eqb (get_or journal.now (at + Limits.OPERATION) 0) Limits.TRANSFER || eqb (get_or journal.now (at + Limits.OPERATION) 0) Limits.OPEN) (get_or journal.now (at + Limits.ENTRY_AMOUNT) 0) other }
 {
     let operation = journal[at + OPERATION];
     rows::choose(
@@ -62,16 +62,16 @@ fn paid(journal: &[u64], at: usize, other: u64) -> u64
 
 // Whether that row has signer and nonce.
 fn uses(journal: &[u64], at: usize, signer: u64, nonce: u64) -> bool
-    requires { at + JOURNAL_LEN ≤ length journal.now }
-    ensures { result ≡ (eqb (get_or journal.now (at + SIGNER) 0) signer && eqb (get_or journal.now (at + NONCE) 0) nonce) }
+    requires { at + Limits.JOURNAL_LEN ≤ length journal.now }
+    ensures { result ≡ (eqb (get_or journal.now (at + Limits.SIGNER) 0) signer && eqb (get_or journal.now (at + Limits.NONCE) 0) nonce) }
 {
     (journal[at + SIGNER] == signer) & (journal[at + NONCE] == nonce)
 }
 
 // What that row adds to the signer's day: what it paid, if the signer did so since then.
 fn spends(journal: &[u64], at: usize, signer: u64, since: u64, paid: u64) -> u64
-    requires { at + JOURNAL_LEN ≤ length journal.now }
-    ensures { result ≡ cond (eqb (get_or journal.now (at + SIGNER) 0) signer && leb since (get_or journal.now (at + SETTLED_AT) 0)) paid 0 }
+    requires { at + Limits.JOURNAL_LEN ≤ length journal.now }
+    ensures { result ≡ cond (eqb (get_or journal.now (at + Limits.SIGNER) 0) signer && leb since (get_or journal.now (at + Limits.SETTLED_AT) 0)) paid 0 }
 {
     rows::choose(
         (journal[at + SIGNER] == signer) & (since <= journal[at + SETTLED_AT]),
@@ -82,7 +82,7 @@ fn spends(journal: &[u64], at: usize, signer: u64, since: u64, paid: u64) -> u64
 
 // Reads the first n rows.
 pub fn look(journal: &[u64], n: usize, signer: u64, nonce: u64, clock: u64) -> Looked
-    requires { (n * JOURNAL_LEN ≤ length journal.now) × (n ≤ MAX_ENTRIES) }
+    requires { (n * Limits.JOURNAL_LEN ≤ length journal.now) × (n ≤ Limits.MAX_ENTRIES) }
     ensures { result ≡ looked (every n (λ i. all (entry_tests (entries_in journal.now) i))) (seen_in journal.now n signer nonce) (counted_of journal.now n signer clock) }
 {
     let since = day_before(clock);

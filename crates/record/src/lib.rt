@@ -2,7 +2,7 @@
 #![tactic(auto)]
 
 ghost use Rattle.std.specs.Prelude.{◌≡◌, length};
-ghost use Rattle.rules.specs.Limits.{RECORD_BYTES};
+ghost use Rattle.rules.specs.Limits;
 ghost use Rattle.rules.specs.Record.{decode, encode, nothing, read_by, read_of, Written, write_of};
 ghost use Rattle.rules.specs.declared.Read.{Read};
 
@@ -40,7 +40,7 @@ fn malformed() -> Read
 
 // The fields that 108 bytes say.
 fn fields(b: &[u8]) -> Submission
-    requires { length b.now ≡ RECORD_BYTES }
+    requires { length b.now ≡ Limits.RECORD_BYTES }
     ensures { result ≡ decode b.now }
 {
     Submission {
@@ -90,7 +90,7 @@ pub fn read_record(bytes: &[u8]) -> Read
 
 // Stores the bytes of a submission.
 fn put_fields(s: Submission, out: &mut [u8])
-    requires { length out.old ≡ RECORD_BYTES }
+    requires { length out.old ≡ Limits.RECORD_BYTES }
     ensures { out.new ≡ encode s }
 {
     out[0] = MARK_0;

@@ -1,6 +1,6 @@
 // Both round trips, as facts about the code. They take any submission and any bytes, so what the types say of them is all that is assumed.
 ghost use Rattle.std.specs.Prelude.{◌≡◌, length};
-ghost use Rattle.rules.specs.Limits.{RECORD_BYTES};
+ghost use Rattle.rules.specs.Limits;
 ghost use Rattle.rules.specs.Record.{read_of, Written, write_of};
 ghost use Rattle.rules.specs.declared.Read.{Read};
 
@@ -18,7 +18,7 @@ pub fn write_read(s: Submission, out: &mut [u8]) -> Read
 // Reads a record and writes it back: where it is accepted and there is room for it, it is written back byte by byte.
 pub fn read_write(bytes: &[u8], out: &mut [u8]) -> u64
     ensures { (◌≡◌ {A = Written} (record { number = result; out = out.new }) (write_of (read_of bytes.now).submission out.old))
-        × ((read_of bytes.now).number ≡ 0 → length out.old ≡ RECORD_BYTES → (result ≡ 0) × (out.new ≡ bytes.now)) }
+        × ((read_of bytes.now).number ≡ 0 → length out.old ≡ Limits.RECORD_BYTES → (result ≡ 0) × (out.new ≡ bytes.now)) }
 {
     let read = crate::read_record(bytes);
     crate::write_record(read.submission, out)

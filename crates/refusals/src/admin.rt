@@ -1,6 +1,6 @@
 // Checks 12 to 43 of the operations that move no credits by themselves: sweep, freeze, caps and close.
 ghost use Rattle.std.specs.Prelude.{◌≡◌, ◌&&◌, ◌+◌, ◌*◌, ◌≤◌, ◌<◌, eqb, get_or, length};
-ghost use Rattle.rules.specs.Limits.{WALLET_LEN, ESCROW_LEN, MAX_WALLETS, WALLETS, ESCROWS, ENTRIES, SWEEP, FREEZE, CAPS, CLOSE, TO, ESCROW_STATE, IS_OPEN};
+ghost use Rattle.rules.specs.Limits;
 ghost use Rattle.rules.specs.Table.{word};
 ghost use Rattle.rules.specs.Ledger.{Ledger, Sized};
 ghost use Rattle.rules.specs.Moments.{any, ◌of_edition◌, ◌seeing_header◌, ◌seeing_wallets◌, ◌seeing_escrows◌, ◌seeing_journal◌};
@@ -15,7 +15,7 @@ use rules::{Edition, Submission, WalletState};
 
 // A sweep: check 12, of its limit.
 pub fn sweep_refusal(s: Submission) -> u64
-    requires { s.op ≡ SWEEP }
+    requires { s.op ≡ Limits.SWEEP }
     ensures { (L : Ledger) → result ≡ first (operation_refusals L s) }
 {
     let amount_out_of_range = !((1 <= s.amount) & (s.amount <= MAX_SWEEP_ROWS));
@@ -24,7 +24,7 @@ pub fn sweep_refusal(s: Submission) -> u64
 
 // A freeze: checks 16, 43, 40, in this order. Target 0 is the system.
 pub fn freeze_refusal(header: &[u64], wallets: &[u64], journal: &[u64], s: Submission) -> u64
-    requires { (ENTRIES < length header.now) × (get_or header.now WALLETS 0 * WALLET_LEN ≤ length wallets.now) × (s.op ≡ FREEZE) }
+    requires { (Limits.ENTRIES < length header.now) × (get_or header.now Limits.WALLETS 0 * Limits.WALLET_LEN ≤ length wallets.now) × (s.op ≡ Limits.FREEZE) }
     ensures { (K : Ledger) → let L = any K seeing_header header seeing_wallets wallets seeing_journal journal in result ≡ first (operation_refusals L.entry s) }
 {
     let count = header[WALLETS] as usize;
@@ -41,7 +41,7 @@ pub fn freeze_refusal(header: &[u64], wallets: &[u64], journal: &[u64], s: Submi
 
 // New caps: checks 12, 16, 43, 40, in this order.
 pub fn caps_refusal(header: &[u64], wallets: &[u64], journal: &[u64], s: Submission) -> u64
-    requires { (ENTRIES < length header.now) × (get_or header.now WALLETS 0 * WALLET_LEN ≤ length wallets.now) × (s.op ≡ CAPS) }
+    requires { (Limits.ENTRIES < length header.now) × (get_or header.now Limits.WALLETS 0 * Limits.WALLET_LEN ≤ length wallets.now) × (s.op ≡ Limits.CAPS) }
     ensures { (K : Ledger) → let L = any K seeing_header header seeing_wallets wallets seeing_journal journal in result ≡ first (operation_refusals L.entry s) }
 {
     let count = header[WALLETS] as usize;
@@ -60,15 +60,15 @@ pub fn caps_refusal(header: &[u64], wallets: &[u64], journal: &[u64], s: Submiss
 
 // Whether the escrow in row i is to an id, and open.
 fn opens_to(escrows: &[u64], len: usize, i: usize, id: u64) -> bool
-    requires { (i * len + len ≤ length escrows.now) × (ESCROW_LEN ≤ len) }
-    ensures { result ≡ (eqb (word escrows.now len i TO) id && eqb (word escrows.now len i ESCROW_STATE) IS_OPEN) }
+    requires { (i * len + len ≤ length escrows.now) × (Limits.ESCROW_LEN ≤ len) }
+    ensures { result ≡ (eqb (word escrows.now len i Limits.TO) id && eqb (word escrows.now len i Limits.ESCROW_STATE) Limits.IS_OPEN) }
 {
     (escrows[i * len + TO] == id) & (escrows[i * len + ESCROW_STATE] == IS_OPEN)
 }
 
 // Whether one of the first n escrows to an id is open, stale or not.
 fn open_to(escrows: &[u64], len: usize, n: usize, id: u64) -> bool
-    requires { (n * len ≤ length escrows.now) × (ESCROW_LEN ≤ len) }
+    requires { (n * len ≤ length escrows.now) × (Limits.ESCROW_LEN ≤ len) }
     ensures { result ≡ open_to len escrows.now n id }
 {
     let mut found = false;
@@ -90,7 +90,7 @@ pub fn close_refusal(
     journal: &[u64],
     s: Submission,
 ) -> u64
-    requires { (ENTRIES < length header.now) × (get_or header.now WALLETS 0 ≤ MAX_WALLETS) × (get_or header.now WALLETS 0 * WALLET_LEN ≤ length wallets.now) × (get_or header.now ESCROWS 0 * edition.escrow ≤ length escrows.now) × (s.op ≡ CLOSE) × Sized edition }
+    requires { (Limits.ENTRIES < length header.now) × (get_or header.now Limits.WALLETS 0 ≤ Limits.MAX_WALLETS) × (get_or header.now Limits.WALLETS 0 * Limits.WALLET_LEN ≤ length wallets.now) × (get_or header.now Limits.ESCROWS 0 * edition.escrow ≤ length escrows.now) × (s.op ≡ Limits.CLOSE) × Sized edition }
     ensures { (K : Ledger) → let L = any K of_edition edition seeing_header header seeing_wallets wallets seeing_escrows escrows seeing_journal journal in result ≡ first (operation_refusals L.entry s) }
 {
     let count = header[WALLETS] as usize;

@@ -3,8 +3,8 @@
 #![tactic(auto)]
 
 ghost use Rattle.std.specs.Prelude.{◌≡◌, ◌+◌, ◌≤◌, get_or, length};
+ghost use Rattle.rules.specs.Limits;
 ghost use Rattle.rules.specs.Ledger.{Sized, first_edition};
-ghost use Rattle.rules.specs.Limits.{ENTRY_BYTES, ANSWER_AT, WORD_AT};
 ghost use Rattle.rules.specs.Moments.{tables, lent};
 ghost use Rattle.rules.specs.Record.{le_at};
 ghost use Rattle.rules.specs.Recording.{cut_short};
@@ -20,8 +20,8 @@ use rules::{Answer, Edition, FIRST, Found, Verdict};
 
 // The recorded answer of the entry that starts at a place.
 fn recorded_at(recording: &[u8], at: usize) -> Answer
-    requires { at + ENTRY_BYTES ≤ length recording.now }
-    ensures { result ≡ answer (get_or recording.now (at + ANSWER_AT) 0) (le_at 8 recording.now (at + WORD_AT)) }
+    requires { at + Limits.ENTRY_BYTES ≤ length recording.now }
+    ensures { result ≡ answer (get_or recording.now (at + Limits.ANSWER_AT) 0) (le_at 8 recording.now (at + Limits.WORD_AT)) }
 {
     let number = recording[at + ANSWER_AT] as u64;
     let word = word_bytes::word_at(recording, at + WORD_AT);

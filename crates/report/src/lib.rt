@@ -4,8 +4,8 @@
 #![tactic(auto)]
 
 ghost use Rattle.std.specs.Prelude.{◌≡◌, get_or};
+ghost use Rattle.rules.specs.Limits;
 ghost use Rattle.rules.specs.Ledger.{Sized, first_edition};
-ghost use Rattle.rules.specs.Limits.{NAMED_FIGURE, TOLD_NUMBER, TOLD_ENTRIES};
 ghost use Rattle.rules.specs.Moments.{tables, lent};
 ghost use Rattle.rules.specs.Report.{report_of, telling, telling_of, report_on, report};
 ghost use Rattle.rules.specs.Sound.{Ready};
@@ -30,8 +30,8 @@ fn report_on(
     named: &mut [u64; NAMED],
     told: &mut [u64; TOLD],
 ) -> [[u64; ANSWERS]; GRID_ROWS]
-    requires { Sized edition × Ready (tables edition header wallets escrows receipts journal) × (get_or named.old NAMED_FIGURE 0 ≡ 0) }
-    ensures { let L = lent edition header wallets escrows receipts journal in telling (get_or told.new TOLD_NUMBER 0) (get_or told.new TOLD_ENTRIES 0) (report_of result figures.new named.new) L.exit ≡ telling_of (report_on submit (report_of grid figures.old named.old) L.entry recording.now) }
+    requires { Sized edition × Ready (tables edition header wallets escrows receipts journal) × (get_or named.old Limits.NAMED_FIGURE 0 ≡ 0) }
+    ensures { let L = lent edition header wallets escrows receipts journal in telling (get_or told.new Limits.TOLD_NUMBER 0) (get_or told.new Limits.TOLD_ENTRIES 0) (report_of result figures.new named.new) L.exit ≡ telling_of (report_on submit (report_of grid figures.old named.old) L.entry recording.now) }
 {
     let entries = recording.len() / ENTRY_BYTES;
     let mut counts = grid;
@@ -78,7 +78,7 @@ fn report_afresh(
     told: &mut [u64; TOLD],
 ) -> [[u64; ANSWERS]; GRID_ROWS]
     requires { Sized edition }
-    ensures { let L = lent edition header wallets escrows receipts journal in telling (get_or told.new TOLD_NUMBER 0) (get_or told.new TOLD_ENTRIES 0) (report_of result figures.new named.new) L.exit ≡ report submit (report_of grid figures.old named.old) L.entry recording.now }
+    ensures { let L = lent edition header wallets escrows receipts journal in telling (get_or told.new Limits.TOLD_NUMBER 0) (get_or told.new Limits.TOLD_ENTRIES 0) (report_of result figures.new named.new) L.exit ≡ report submit (report_of grid figures.old named.old) L.entry recording.now }
 {
     if !editions::lengths_right(edition, header, wallets, escrows, receipts, journal) {
         *told = [BAD_TABLE, 0];
@@ -108,7 +108,7 @@ pub fn report(
     named: &mut [u64; NAMED],
     told: &mut [u64; TOLD],
 ) -> [[u64; ANSWERS]; GRID_ROWS]
-    ensures { let L = lent first_edition header wallets escrows receipts journal in telling (get_or told.new TOLD_NUMBER 0) (get_or told.new TOLD_ENTRIES 0) (report_of result figures.new named.new) L.exit ≡ report submit (report_of grid figures.old named.old) L.entry recording.now }
+    ensures { let L = lent first_edition header wallets escrows receipts journal in telling (get_or told.new Limits.TOLD_NUMBER 0) (get_or told.new Limits.TOLD_ENTRIES 0) (report_of result figures.new named.new) L.exit ≡ report submit (report_of grid figures.old named.old) L.entry recording.now }
 {
     report_afresh(
         FIRST, header, wallets, escrows, receipts, journal, recording, grid, figures, named, told,

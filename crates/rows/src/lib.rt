@@ -2,7 +2,7 @@
 #![tactic(auto)]
 
 ghost use Rattle.std.specs.Prelude.{◌≡◌, cond, ◌*◌, ◌<◌, ◌≤◌, ◌^◌, length, get_or};
-ghost use Rattle.rules.specs.Limits.{WALLET_LEN};
+ghost use Rattle.rules.specs.Limits;
 ghost use Rattle.rules.specs.Table.{word, put, put_row, table_right};
 ghost use Rattle.rules.specs.Ledger.{row_of};
 ghost use Rattle.rules.specs.Lookup.{count_right, row_place, part_at};
@@ -59,7 +59,7 @@ pub fn choose(b: bool, n: u64, rest: u64) -> u64
 
 // The first of n wallet rows that has the id; n where there is none. The search stops at its row.
 pub fn find_row(t: &[u64], n: usize, id: u64) -> usize
-    requires { n * WALLET_LEN ≤ length t.now }
+    requires { n * Limits.WALLET_LEN ≤ length t.now }
     ensures { result ≡ row_of t.now n id }
 {
     let mut i = 0;

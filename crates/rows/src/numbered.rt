@@ -1,7 +1,7 @@
 // Words of a row by the row's number, counted from 1. Wallets, escrows and receipts are numbered apart, each by a type of its own, so none is
 // looked up or closed in the place of another.
 ghost use Rattle.std.specs.Prelude.{◌≡◌, ◌-◌, ◌*◌, ◌<◌, ◌≤◌, ◌^◌, length};
-ghost use Rattle.rules.specs.Limits.{WALLET_LEN, RECEIPT_LEN};
+ghost use Rattle.rules.specs.Limits;
 ghost use Rattle.rules.specs.Table.{word, put};
 ghost use Rattle.rules.specs.Wallets.{look_up};
 ghost use Rattle.rows.specs.Numbered.{Names};
@@ -11,7 +11,7 @@ use rules::{Edition, EscrowNumber, ReceiptNumber, WalletNumber, WalletState};
 
 // Looks up the wallet of an id among n written ones: missing, or live or closed and its number. No other place reads the word for closed.
 pub fn find_wallet(wallets: &[u64], n: usize, id: u64) -> WalletState
-    requires { n * WALLET_LEN ≤ length wallets.now }
+    requires { n * Limits.WALLET_LEN ≤ length wallets.now }
     ensures { result ≡ look_up wallets.now n id }
 {
     let row = crate::find_row(wallets, n, id);
@@ -28,7 +28,7 @@ pub fn find_wallet(wallets: &[u64], n: usize, id: u64) -> WalletState
 // Word k of a wallet; 0 past the end.
 pub fn wallet(wallets: &[u64], number: WalletNumber, k: usize) -> u64
     requires { Names number.0 × (k < 2 ^ 16) }
-    ensures { result ≡ word wallets.now WALLET_LEN (number.0 - 1) k }
+    ensures { result ≡ word wallets.now Limits.WALLET_LEN (number.0 - 1) k }
 {
     crate::get(wallets, WALLET_LEN, (number.0 - 1) as usize, k)
 }
@@ -44,7 +44,7 @@ pub fn escrow(edition: Edition, escrows: &[u64], number: EscrowNumber, k: usize)
 // Word k of a receipt.
 pub fn receipt(receipts: &[u64], number: ReceiptNumber, k: usize) -> u64
     requires { Names number.0 × (k < 2 ^ 16) }
-    ensures { result ≡ word receipts.now RECEIPT_LEN (number.0 - 1) k }
+    ensures { result ≡ word receipts.now Limits.RECEIPT_LEN (number.0 - 1) k }
 {
     crate::get(receipts, RECEIPT_LEN, (number.0 - 1) as usize, k)
 }
@@ -52,7 +52,7 @@ pub fn receipt(receipts: &[u64], number: ReceiptNumber, k: usize) -> u64
 // v at word k of a wallet; nothing past the end.
 pub fn set_wallet(wallets: &mut [u64], number: WalletNumber, k: usize, v: u64)
     requires { Names number.0 × (k < 2 ^ 16) }
-    ensures { wallets.new ≡ put wallets.old WALLET_LEN (number.0 - 1) k v }
+    ensures { wallets.new ≡ put wallets.old Limits.WALLET_LEN (number.0 - 1) k v }
 {
     crate::set(wallets, WALLET_LEN, (number.0 - 1) as usize, k, v);
 }
@@ -68,7 +68,7 @@ pub fn set_escrow(edition: Edition, escrows: &mut [u64], number: EscrowNumber, k
 // v at word k of a receipt.
 pub fn set_receipt(receipts: &mut [u64], number: ReceiptNumber, k: usize, v: u64)
     requires { Names number.0 × (k < 2 ^ 16) }
-    ensures { receipts.new ≡ put receipts.old RECEIPT_LEN (number.0 - 1) k v }
+    ensures { receipts.new ≡ put receipts.old Limits.RECEIPT_LEN (number.0 - 1) k v }
 {
     crate::set(receipts, RECEIPT_LEN, (number.0 - 1) as usize, k, v);
 }

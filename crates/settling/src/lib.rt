@@ -2,7 +2,7 @@
 #![tactic(auto)]
 
 ghost use Rattle.std.specs.Prelude.{◌≡◌, ◌<◌, ◌≤◌, length, get_or};
-ghost use Rattle.rules.specs.Limits.{MAX_ENTRIES, ENTRIES};
+ghost use Rattle.rules.specs.Limits;
 ghost use Rattle.rules.specs.Ledger.{Ledger};
 ghost use Rattle.rules.specs.Moments.{tables, lent, any, ◌of_edition◌, ◌with_header◌, ◌with_wallets◌, ◌with_escrows◌, ◌with_receipts◌, ◌with_journal◌};
 ghost use Rattle.rules.specs.Settle.{done, operate, enter, settle};
@@ -46,7 +46,7 @@ fn operate(
 
 // All but a sweep add one journal row.
 fn enter(header: &mut [u64], journal: &mut [u64], s: Submission, word: u64)
-    requires { (ENTRIES < length header.old) × (get_or header.old ENTRIES 0 ≤ MAX_ENTRIES) }
+    requires { (Limits.ENTRIES < length header.old) × (get_or header.old Limits.ENTRIES 0 ≤ Limits.MAX_ENTRIES) }
     ensures { (K : Ledger) → let L = any K with_header header with_journal journal in L.exit ≡ enter s word L.entry }
 {
     if s.op == SWEEP {

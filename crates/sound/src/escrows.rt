@@ -1,6 +1,6 @@
 // Escrows: each by itself, its two wallets, and each wallet's locked as the sum of its open escrows.
 ghost use Rattle.std.specs.Prelude.{◌≡◌, true, cond, ◌+◌, ◌*◌, ◌≤◌, eqb, length};
-ghost use Rattle.rules.specs.Limits.{ESCROW_LEN, WALLET_LEN, MAX_WALLETS, IS_OPEN, ESCROW_STATE, ESCROW_AMOUNT};
+ghost use Rattle.rules.specs.Limits;
 ghost use Rattle.rules.specs.Table.{word, all, every};
 ghost use Rattle.rules.specs.Sound.{escrow_alone_tests};
 ghost use Rattle.index.specs.Index.{Indexed};
@@ -14,7 +14,7 @@ use rules::limits::{
 
 // What an escrow's own row shows.
 fn escrow_right(e: &[u64], len: usize, k: usize) -> bool
-    requires { (k * len + len ≤ length e.now) × (ESCROW_LEN ≤ len) }
+    requires { (k * len + len ≤ length e.now) × (Limits.ESCROW_LEN ≤ len) }
     ensures { result ≡ all (escrow_alone_tests (parties len e.now 0 e.now 0) k) }
 {
     let at = k * len;
@@ -30,8 +30,8 @@ fn escrow_right(e: &[u64], len: usize, k: usize) -> bool
 
 // What an escrow holds of its sender.
 fn held_in(e: &[u64], len: usize, k: usize) -> u64
-    requires { (k * len + len ≤ length e.now) × (ESCROW_LEN ≤ len) }
-    ensures { result ≡ cond (eqb (word e.now len k ESCROW_STATE) IS_OPEN) (word e.now len k ESCROW_AMOUNT) 0 }
+    requires { (k * len + len ≤ length e.now) × (Limits.ESCROW_LEN ≤ len) }
+    ensures { result ≡ cond (eqb (word e.now len k Limits.ESCROW_STATE) Limits.IS_OPEN) (word e.now len k Limits.ESCROW_AMOUNT) 0 }
 {
     if e[k * len + ESCROW_STATE] == IS_OPEN {
         e[k * len + ESCROW_AMOUNT]
@@ -72,7 +72,7 @@ fn hold_all(
 
 // Whether each wallet's locked is its sum.
 fn locked_right(w: &[u64], n: usize, sums: &[u64; NUMBERS]) -> bool
-    requires { (n * WALLET_LEN ≤ length w.now) × (n ≤ MAX_WALLETS) }
+    requires { (n * Limits.WALLET_LEN ≤ length w.now) × (n ≤ Limits.MAX_WALLETS) }
     ensures { result ≡ every n (locked_is w.now sums.now) }
 {
     let mut i: usize = 0;

@@ -1,6 +1,6 @@
 // Journal rows: a time, and an amount for transfers and opened escrows.
 ghost use Rattle.std.specs.Prelude.{◌≡◌, ◌+◌, ◌*◌, ◌≤◌, length};
-ghost use Rattle.rules.specs.Limits.{JOURNAL_LEN};
+ghost use Rattle.rules.specs.Limits;
 ghost use Rattle.rules.specs.Table.{all, every};
 ghost use Rattle.rules.specs.Sound.{entry_tests};
 ghost use Rattle.sound.specs.Parts.{entries_in};
@@ -15,7 +15,7 @@ const TRANSFER: u64 = rules::limits::TRANSFER as u64;
 const OPEN: u64 = rules::limits::OPEN as u64;
 
 fn entry_right(j: &[u64], k: usize) -> bool
-    requires { k * JOURNAL_LEN + JOURNAL_LEN ≤ length j.now }
+    requires { k * Limits.JOURNAL_LEN + Limits.JOURNAL_LEN ≤ length j.now }
     ensures { result ≡ all (entry_tests (entries_in j.now) k) }
 {
     let at = k * JOURNAL_LEN;
@@ -26,7 +26,7 @@ fn entry_right(j: &[u64], k: usize) -> bool
 }
 
 pub fn entries_right(j: &[u64], q: usize) -> bool
-    requires { q * JOURNAL_LEN ≤ length j.now }
+    requires { q * Limits.JOURNAL_LEN ≤ length j.now }
     ensures { result ≡ every q (λ i. all (entry_tests (entries_in j.now) i)) }
 {
     let mut k: usize = 0;

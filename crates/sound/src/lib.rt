@@ -2,11 +2,11 @@
 #![tactic(auto)]
 
 ghost use Rattle.std.specs.Prelude.{◌≡◌, true, ◌≤◌, length};
+ghost use Rattle.rules.specs.Limits;
 ghost use Rattle.rules.specs.Table.{all};
 ghost use Rattle.rules.specs.Ledger.{Sized, lengths_right};
 ghost use Rattle.rules.specs.Moments.{tables_shown, shown};
 ghost use Rattle.rules.specs.Sound.{header_tests, sound};
-ghost use Rattle.rules.specs.Limits.{HEADER_LEN, ESCROW_LEN};
 
 use rules::Edition;
 use rules::limits::{
@@ -28,7 +28,7 @@ fn header_right(
     receipts: &[u64],
     journal: &[u64],
 ) -> bool
-    requires { (HEADER_LEN ≤ length header.now) × (ESCROW_LEN ≤ edition.escrow) }
+    requires { (Limits.HEADER_LEN ≤ length header.now) × (Limits.ESCROW_LEN ≤ edition.escrow) }
     ensures { result ≡ all (header_tests (shown edition header wallets escrows receipts journal).entry) }
 {
     (header[EDITION] == edition.number)

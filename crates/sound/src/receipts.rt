@@ -1,6 +1,6 @@
 // Receipts: a link, times, a flag, a state.
 ghost use Rattle.std.specs.Prelude.{◌≡◌, ◌+◌, ◌-◌, ◌*◌, ◌≤◌, length};
-ghost use Rattle.rules.specs.Limits.{ESCROW_LEN, RECEIPT_LEN};
+ghost use Rattle.rules.specs.Limits;
 ghost use Rattle.rules.specs.Table.{all, every};
 ghost use Rattle.rules.specs.Sound.{link_right, receipt_tests};
 ghost use Rattle.sound.specs.Parts.{receipts_in};
@@ -24,7 +24,7 @@ fn row_at(number: EscrowNumber) -> usize
 
 // A link is 0, or a written escrow from the requester to the provider.
 fn link_right(e: &[u64], len: usize, m: usize, r: &[u64], k: usize) -> bool
-    requires { (m * len ≤ length e.now) × (len ≤ length e.now) × (k * RECEIPT_LEN + RECEIPT_LEN ≤ length r.now) × (ESCROW_LEN ≤ len) }
+    requires { (m * len ≤ length e.now) × (len ≤ length e.now) × (k * Limits.RECEIPT_LEN + Limits.RECEIPT_LEN ≤ length r.now) × (Limits.ESCROW_LEN ≤ len) }
     ensures { result ≡ link_right (receipts_in len e.now m r.now) k }
 {
     let at = k * RECEIPT_LEN;
@@ -38,7 +38,7 @@ fn link_right(e: &[u64], len: usize, m: usize, r: &[u64], k: usize) -> bool
 }
 
 fn receipt_right(e: &[u64], len: usize, m: usize, r: &[u64], k: usize) -> bool
-    requires { (m * len ≤ length e.now) × (len ≤ length e.now) × (k * RECEIPT_LEN + RECEIPT_LEN ≤ length r.now) × (ESCROW_LEN ≤ len) }
+    requires { (m * len ≤ length e.now) × (len ≤ length e.now) × (k * Limits.RECEIPT_LEN + Limits.RECEIPT_LEN ≤ length r.now) × (Limits.ESCROW_LEN ≤ len) }
     ensures { result ≡ all (receipt_tests (receipts_in len e.now m r.now) k) }
 {
     let link = link_right(e, len, m, r, k);
@@ -51,7 +51,7 @@ fn receipt_right(e: &[u64], len: usize, m: usize, r: &[u64], k: usize) -> bool
 }
 
 pub fn receipts_right(e: &[u64], len: usize, m: usize, r: &[u64], p: usize) -> bool
-    requires { (m * len ≤ length e.now) × (len ≤ length e.now) × (p * RECEIPT_LEN ≤ length r.now) × (ESCROW_LEN ≤ len) }
+    requires { (m * len ≤ length e.now) × (len ≤ length e.now) × (p * Limits.RECEIPT_LEN ≤ length r.now) × (Limits.ESCROW_LEN ≤ len) }
     ensures { result ≡ every p (λ i. all (receipt_tests (receipts_in len e.now m r.now) i)) }
 {
     let mut k: usize = 0;

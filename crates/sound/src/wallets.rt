@@ -1,6 +1,6 @@
 // Wallets by themselves, and all credits together.
 ghost use Rattle.std.specs.Prelude.{◌≡◌, ◌&&◌, ◌+◌, ◌*◌, ◌≤◌, eqb, leb, length};
-ghost use Rattle.rules.specs.Limits.{WALLET_LEN, MAX_GRANTED_MICRO};
+ghost use Rattle.rules.specs.Limits;
 ghost use Rattle.rules.specs.Table.{all, every};
 ghost use Rattle.rules.specs.Sound.{wallet_tests, credits};
 ghost use Rattle.sound.specs.Parts.{wallets_in};
@@ -9,14 +9,14 @@ use rules::limits::{BALANCE, FROZEN, ID, IS_CLOSED, LOCKED, MAX_GRANTED_MICRO, W
 
 // An id, and a frozen word that says 0, 1 or, closed, 2.
 fn wallet_right(w: &[u64], i: usize) -> bool
-    requires { i * WALLET_LEN + WALLET_LEN ≤ length w.now }
+    requires { i * Limits.WALLET_LEN + Limits.WALLET_LEN ≤ length w.now }
     ensures { result ≡ all (wallet_tests (wallets_in w.now 0) i) }
 {
     (w[i * WALLET_LEN + ID] != 0) & (w[i * WALLET_LEN + FROZEN] <= IS_CLOSED)
 }
 
 pub fn wallets_right(w: &[u64], n: usize) -> bool
-    requires { n * WALLET_LEN ≤ length w.now }
+    requires { n * Limits.WALLET_LEN ≤ length w.now }
     ensures { result ≡ every n (λ i. all (wallet_tests (wallets_in w.now n) i)) }
 {
     let mut i: usize = 0;
@@ -31,8 +31,8 @@ pub fn wallets_right(w: &[u64], n: usize) -> bool
 
 // Balances and locked together are the granted total, which is within its limit. What is left of it counts down, so that nothing wraps.
 pub fn total_right(w: &[u64], n: usize, granted: u64) -> bool
-    requires { n * WALLET_LEN ≤ length w.now }
-    ensures { result ≡ (eqb (credits (wallets_in w.now n)) granted && leb granted MAX_GRANTED_MICRO) }
+    requires { n * Limits.WALLET_LEN ≤ length w.now }
+    ensures { result ≡ (eqb (credits (wallets_in w.now n)) granted && leb granted Limits.MAX_GRANTED_MICRO) }
 {
     if MAX_GRANTED_MICRO < granted {
         return false;

@@ -2,7 +2,7 @@
 #![tactic(auto)]
 
 ghost use Rattle.std.specs.Prelude.{◌≡◌, ◌&&◌, ℕ, ◌+◌, ◌-◌, ◌<◌, ◌≤◌, min, get_or, eqb, ltb};
-ghost use Rattle.rules.specs.Limits.{ESCROWS};
+ghost use Rattle.rules.specs.Limits;
 ghost use Rattle.rules.specs.Table.{loop};
 ghost use Rattle.rules.specs.Ledger.{Ledger};
 ghost use Rattle.rules.specs.Moments.{tables, any, ◌of_edition◌, ◌with_wallets◌, ◌with_escrows◌, ◌with_receipts◌, ◌seeing_header◌};
@@ -135,7 +135,7 @@ fn sweep_escrows(
     limit: u64,
 ) -> u64
     requires { Expiring edition header.now wallets.old escrows.old time }
-    ensures { (result ≤ limit) × ((K : Ledger) (closed : ℕ) → let L = any K of_edition edition seeing_header header with_wallets wallets with_escrows escrows in under_way (limit - result) (closed + result) L.exit ≡ loop (get_or header.now ESCROWS 0) (sweep_escrow time) (under_way limit closed L.entry)) }
+    ensures { (result ≤ limit) × ((K : Ledger) (closed : ℕ) → let L = any K of_edition edition seeing_header header with_wallets wallets with_escrows escrows in under_way (limit - result) (closed + result) L.exit ≡ loop (get_or header.now Limits.ESCROWS 0) (sweep_escrow time) (under_way limit closed L.entry)) }
 {
     let written = header[ESCROWS];
     let mut closed = 0;

@@ -1,0 +1,7 @@
+-- `admin::sweep_refusal` meets its contract.
+use Rattle.refusals.proofs.Others.{sweep_by}
+use borrow.Author.Rules.{rules}
+use Rattle.refusals.proofs.admin.sweep_refusal.Goals as goal
+
+pub returns : goal.returns
+returns c = λ L. sweep_by L _ _ c.requires c.choose.ensures

@@ -1,0 +1,14 @@
+-- `wallets::total_right` meets its contract. The loop's invariant: what is left and the credits of the rows passed are what was granted.
+use native.Mathlib.Omega.{arith}
+use Prim.Native.Nat.{◌+◌, ◌≤◌, ◌-◌}
+use mathlib.Core.Path.{◌≡◌}
+use Rattle.rules.specs.Table.{sum}
+use Rattle.rules.proofs.Counts.{sum_none, sum_step}
+use Rattle.sound.proofs.Totals.{both, granted_more, credits_more, credits_left}
+use Rattle.sound.proofs.wallets.total_right.Given as goal
+
+abbrev pub invariant-loop-i : goal.invariant-loop-i
+invariant-loop-i l = (l.i ≤ l.n) × (l.left + sum l.i (both l.w) ≡ l.granted)
+
+abbrev pub decreases-loop-i : goal.decreases-loop-i
+decreases-loop-i l = l.n - l.i
