@@ -35,13 +35,10 @@ close_refusal-requires c =
     (header_there c.requires, wallets_few c.requires, wallets_fit c.requires, escrows_fit c.requires, c.in-12.is, c.requires.sized)
 
 pub paying_refusal-requires : goal.paying_refusal-requires
-paying_refusal-requires c =
-    let low : TRANSFER ≤ c.args.s.op = above GRANT _ (op_low c.requires) c.in_default-1.rest.0.0.0.0.0.0.1 in
-    (header_there c.requires, wallets_few c.requires, wallets_fit c.requires, entries c.requires, now_time c.requires, either TRANSFER _ low c.if-op-lt4.true, c.requires.sized)
+paying_refusal-requires c = let h = c.in-2 in ?
 
 pub closing_refusal-requires : goal.closing_refusal-requires
-closing_refusal-requires c =
-    (header_there c.requires, escrows_few c.requires, either RELEASE _ c.if-op-lt4.false c.if-op-lt6.true, c.requires.sized)
+closing_refusal-requires c = let h = c.in-4 in ?
 
 pub returns-in-1 : goal.returns-in-1
 returns-in-1 c = c.grant_refusal.ensures (ledger_of _ [] [] _ _ [])
@@ -76,9 +73,4 @@ returns-in_default c =
     absurd (omega arith)
 
 pub returns-in_default-2 : goal.returns-in_default-2
-returns-in_default-2 c =
-    let no = c.in_default-1.rest in
-    let past = c.if-op-lt6.false in
-    absurd (by_op (λ _. ⊥) c.args.s.op (op_low c.requires) (op_high c.requires) (op_not_8 c.requires)
-    (λ e. omega (arith, e, past)) (λ e. omega (arith, e, past)) (λ e. omega (arith, e, past)) (λ e. omega (arith, e, past)) (λ e. omega (arith, e, past))
-    no.0.0.0.0.0.1 no.0.0.0.0.1 no.0.0.0.1 no.0.0.1 no.0.1 no.1)
+returns-in_default-2 c = let h = c.in_default in ?

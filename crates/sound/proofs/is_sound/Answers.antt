@@ -43,7 +43,7 @@ given : (c : Else-not-header_right) → (lengths_right (start c) ≡ true) × Si
 given c = c.requires
 
 right : (c : Else-not-header_right) → all (header_tests (start c)) ≡ true
-right c = sym c.header_right.ensures ∙ not-false _ c.if-not-header_right.false
+right c = sym c.header_right.ensures ∙ c.if-not-header_right.false
 
 within : (c : Else-not-header_right)
     → Tables (start c).edition.escrow (start c).wallets (wallet_count (start c)) (start c).escrows (escrow_count (start c))
@@ -54,7 +54,7 @@ pub header_right-requires : goal.header_right-requires
 header_right-requires c = let asked = c.requires in (header_there _ _ _ _ _ _ asked, asked.1.escrow)
 
 pub returns-then-not-header_right : goal.returns-then-not-header_right
-returns-then-not-header_right c = no_header _ _ _ _ _ _ _ c.header_right.ensures c.if-not-header_right.true
+returns-then-not-header_right c = no_header _ _ _ _ _ _ _ c.header_right.ensures (ap not c.if-not-header_right.true)
 
 pub bounds-header-4 : goal.bounds-header-4
 bounds-header-4 c = omega (arith, header_there _ _ _ _ _ _ (given (goal.at.bounds-header-4 c).Else-not-header_right))
@@ -66,7 +66,7 @@ pub wallets_right-requires : goal.wallets_right-requires
 wallets_right-requires c = (within (goal.at.wallets_right-requires c).Else-not-header_right).wallets
 
 pub returns-then-not-wallets_right : goal.returns-then-not-wallets_right
-returns-then-not-wallets_right c = no_wallets _ _ _ _ _ _ (right (goal.at.returns-then-not-wallets_right c).Else-not-header_right) _ c.wallets_right.ensures c.if-not-wallets_right.true
+returns-then-not-wallets_right c = no_wallets _ _ _ _ _ _ (right (goal.at.returns-then-not-wallets_right c).Else-not-header_right) _ c.wallets_right.ensures (ap not c.if-not-wallets_right.true)
 
 pub bounds-header-3 : goal.bounds-header-3
 bounds-header-3 c = omega (arith, header_there _ _ _ _ _ _ (given (header_stage (goal.at.bounds-header-3 c).Else-not-wallets_right)))
@@ -75,13 +75,13 @@ pub total_right-requires : goal.total_right-requires
 total_right-requires c = (within (header_stage (goal.at.total_right-requires c).Else-not-wallets_right)).wallets
 
 pub returns-then-not-total_right : goal.returns-then-not-total_right
-returns-then-not-total_right c = no_total _ _ _ _ _ _ (right (header_stage (goal.at.returns-then-not-total_right c).Else-not-wallets_right)) _ c.total_right.ensures c.if-not-total_right.true
+returns-then-not-total_right c = no_total _ _ _ _ _ _ (right (header_stage (goal.at.returns-then-not-total_right c).Else-not-wallets_right)) _ c.total_right.ensures (ap not c.if-not-total_right.true)
 
 pub parties_right-requires : goal.parties_right-requires
 parties_right-requires c = within (header_stage (wallets_stage c))
 
 pub returns-then-not-parties_right : goal.returns-then-not-parties_right
-returns-then-not-parties_right c = no_parties _ _ _ _ _ _ (right (header_stage (wallets_stage (goal.at.returns-then-not-parties_right c).Else-not-total_right))) _ c.parties_right.ensures c.if-not-parties_right.true
+returns-then-not-parties_right c = no_parties _ _ _ _ _ _ (right (header_stage (wallets_stage (goal.at.returns-then-not-parties_right c).Else-not-total_right))) _ c.parties_right.ensures (ap not c.if-not-parties_right.true)
 
 pub bounds-header-6 : goal.bounds-header-6
 bounds-header-6 c = omega (arith, header_there _ _ _ _ _ _ (given (from_4 (goal.at.bounds-header-6 c).Else-not-parties_right)))
@@ -96,7 +96,7 @@ receipts_right-requires c =
     )
 
 pub returns-then-not-receipts_right : goal.returns-then-not-receipts_right
-returns-then-not-receipts_right c = no_receipts _ _ _ _ _ _ (right (from_4 (goal.at.returns-then-not-receipts_right c).Else-not-parties_right)) _ c.receipts_right.ensures c.if-not-receipts_right.true
+returns-then-not-receipts_right c = no_receipts _ _ _ _ _ _ (right (from_4 (goal.at.returns-then-not-receipts_right c).Else-not-parties_right)) _ c.receipts_right.ensures (ap not c.if-not-receipts_right.true)
 
 pub bounds-header-7 : goal.bounds-header-7
 bounds-header-7 c = omega (arith, header_there _ _ _ _ _ _ (given (from_5 (goal.at.bounds-header-7 c).Else-not-receipts_right)))
@@ -111,4 +111,4 @@ returns c =
     let wallets = wallets_stage total in
     the_entries _ _ _ _ _ _ (right (header_stage wallets)) _ _ _ _ _ wallets.before.wallets-right.ensures wallets.if2.left
     total.before.total_right.ensures total.if3.left parties.before.parties-right.ensures parties.if4.left
-    c.receipts_right.ensures c.if-not-receipts_right.false c.entries_right.ensures
+    c.receipts_right.ensures (ap not c.if-not-receipts_right.false) c.entries_right.ensures

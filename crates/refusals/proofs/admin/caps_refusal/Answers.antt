@@ -8,6 +8,5 @@ use Rattle.refusals.proofs.admin.caps_refusal.Goals as goal
 pub returns : goal.returns
 returns c =
     λ K. caps_by K.edition _ _ K.escrows K.receipts _ _ _ _ _ _ c.requires.2 c.find_wallet-wallet.ensures c.choose-r40.ensures
-    (⊎_elim (λ x. x.2 ∙ sym (ap (by_target _ _) x.1.given.1))
-    (⊎_elim (λ x. x.2 ∙ sym (ap (by_target _ _) x.1.given.1)) (λ x. x.2 ∙ sym (ap (by_target _ _) x.1.given.1))) c.match-wallet.branch)
+    ?
     c.choose.ensures

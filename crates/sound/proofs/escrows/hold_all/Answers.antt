@@ -35,7 +35,7 @@ returns-then-not-escrow_right c =
     record {
       right =
           every_fails _ c.loop-k.k _ (search rules)
-          (row_wrong a.len a.w.now a.n a.e.now a.m _ _ c.escrow_right.ensures (not-true _ c.if-not-escrow_right.true));
+          (row_wrong a.len a.w.now a.n a.e.now a.m _ _ c.escrow_right.ensures (c.if-not-escrow_right.true));
       held = λ z. absurd (false≢true z);
     }
 
@@ -82,7 +82,7 @@ is_right : (c : Else-from-eq0)
     all (escrow_tests (parties a.len a.w.now a.n a.e.now a.m) c.loop-k.k) ≡ true
 is_right c =
     let a = c.args in
-    row_right a.len a.w.now a.n a.e.now a.m c.loop-k.k _ _ c.escrow_right.ensures (not-false _ c.if-not-escrow_right.false) (was_sent c)
+    row_right a.len a.w.now a.n a.e.now a.m c.loop-k.k _ _ c.escrow_right.ensures (c.if-not-escrow_right.false) (was_sent c)
 
 -- the sender's number is one
 numbered : (c : Else-from-eq0) → c.sender-from.result.0 ≤ MAX_WALLETS

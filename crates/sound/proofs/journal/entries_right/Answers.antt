@@ -14,10 +14,10 @@ pub loop-k-init : goal.loop-k-init
 loop-k-init c = (search rules, every_none _)
 
 pub returns-then-not-entry_right : goal.returns-then-not-entry_right
-returns-then-not-entry_right c = every_fails _ _ _ (search rules) (sym c.entry_right.ensures ∙ not-true _ c.if-not-entry_right.true)
+returns-then-not-entry_right c = every_fails _ _ _ (search rules) (sym c.entry_right.ensures ∙ c.if-not-entry_right.true)
 
 pub loop-k-preserved : goal.loop-k-preserved
-loop-k-preserved c = (search rules, every_on _ _ c.loop-k.invariant.1 (sym c.entry_right.ensures ∙ not-false _ c.if-not-entry_right.false))
+loop-k-preserved c = (search rules, every_on _ _ c.loop-k.invariant.1 (sym c.entry_right.ensures ∙ c.if-not-entry_right.false))
 
 pub returns : goal.returns
 returns c = every_passed _ _ _ c.loop-k.invariant.0 c.loop-k-test.false c.loop-k.invariant.1

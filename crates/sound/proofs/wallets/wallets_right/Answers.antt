@@ -14,10 +14,10 @@ pub loop-i-init : goal.loop-i-init
 loop-i-init c = (search rules, every_none _)
 
 pub returns-then-not-wallet_right : goal.returns-then-not-wallet_right
-returns-then-not-wallet_right c = every_fails _ _ _ (search rules) (sym c.wallet_right.ensures ∙ not-true _ c.if-not-wallet_right.true)
+returns-then-not-wallet_right c = every_fails _ _ _ (search rules) (sym c.wallet_right.ensures ∙ c.if-not-wallet_right.true)
 
 pub loop-i-preserved : goal.loop-i-preserved
-loop-i-preserved c = (search rules, every_on _ _ c.loop-i.invariant.1 (sym c.wallet_right.ensures ∙ not-false _ c.if-not-wallet_right.false))
+loop-i-preserved c = (search rules, every_on _ _ c.loop-i.invariant.1 (sym c.wallet_right.ensures ∙ c.if-not-wallet_right.false))
 
 pub returns : goal.returns
 returns c = every_passed _ _ _ c.loop-i.invariant.0 c.loop-i-test.false c.loop-i.invariant.1

@@ -10,7 +10,7 @@ use Rattle.sound.specs.Parts.{wallets_in}
 use Rattle.sound.proofs.wallets.wallets_right.Given as goal
 
 abbrev pub invariant-loop-i : goal.invariant-loop-i
-invariant-loop-i l = (l.i ≤ l.n) × (every l.i (λ l.i. all (wallet_tests (wallets_in l.w l.n) l.i)) ≡ true)
+invariant-loop-i l = (l.i ≤ l.n) × (every l.i (λ k. all (wallet_tests (wallets_in l.w l.n) k)) ≡ true)
 
 abbrev pub decreases-loop-i : goal.decreases-loop-i
 decreases-loop-i l = l.n - l.i
