@@ -1,4 +1,5 @@
 -- `settling::operate` meets its contract: each arm by its own contract, what that needs out of soundness and the refusals.
+use native.Mathlib.Omega.{arith}
 use mathlib.Core.Path.{ap}
 use mathlib.Core.List.{[]}
 use Rattle.rules.specs.Ledger.{ledger_of, set_receipts}
