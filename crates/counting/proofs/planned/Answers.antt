@@ -3,15 +3,13 @@ use Rattle.counting.proofs.Laws.{plans_none, plans_so}
 use borrow.Author.Rules.{rules}
 use Rattle.counting.proofs.planned.Goals as goal
 
--- LEFT: arguments ['K', 'p']
 pub returns-then-decided-ne0 : goal.returns-then-decided-ne0
-returns-then-decided-ne0 c = plans_none _ _ c.if-decided-ne0.true
+returns-then-decided-ne0 c = λ K p. plans_none _ _ c.if-decided-ne0.true
 
 pub adds-requires : goal.adds-requires
 adds-requires c =
     let asked = c.requires in
     record { wallets = asked.wallets; journal = asked.journal; settles = asked.settles c.if-decided-ne0.false }
 
--- LEFT: arguments ['K', 'p']
 pub returns : goal.returns
-returns c = plans_so _ _ c.if-decided-ne0.false (c.adds.ensures K (p c.if-decided-ne0.false))
+returns c = λ K p. plans_so _ _ c.if-decided-ne0.false (c.adds.ensures K (p c.if-decided-ne0.false))
