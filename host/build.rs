@@ -1,5 +1,5 @@
-//! Links the archive that `rt staticlib milebeacon` writes: `../target/staticlib/libmilebeacon.a`,
-//! or the one in the folder that `MILEBEACON_ARCHIVE_DIR` names.
+//! Links the archive that `rt lib` writes in `../crates/milebeacon`: its `out/libmilebeacon.a`, or the
+//! one in the folder that `MILEBEACON_ARCHIVE_DIR` names.
 
 use std::env;
 use std::path::{Path, PathBuf};
@@ -13,7 +13,7 @@ fn main() {
     println!("cargo:rerun-if-changed={}", archive.display());
     if !archive.is_file() {
         eprintln!(
-            "there is no {}: write it by `rt staticlib milebeacon` at the repository's root, or name its folder in {VARIABLE}",
+            "there is no {}: write it by `rt lib` in the repository's crates/milebeacon, or name its folder in {VARIABLE}",
             archive.display()
         );
         std::process::exit(1);
@@ -24,5 +24,5 @@ fn main() {
 
 fn default_folder() -> PathBuf {
     let package = env::var_os("CARGO_MANIFEST_DIR").unwrap_or_default();
-    Path::new(&package).join("../target/staticlib")
+    Path::new(&package).join("../crates/milebeacon/out")
 }

@@ -6,7 +6,7 @@ ghost use Rattle.std.specs.Prelude.{◌≡◌, ℕ, ◌-◌, ◌<◌, ◌≤◌,
 ghost use Rattle.rules.specs.Limits;
 ghost use Rattle.rules.specs.Table.{loop};
 ghost use Rattle.rules.specs.Ledger.{Ledger, outcome};
-ghost use Rattle.rules.specs.Moments.{tables, any, ◌of_edition◌, ◌with_header◌, ◌with_escrows◌, ◌with_receipts◌, ◌seeing_header◌, ◌seeing_escrows◌, ◌seeing_receipts◌};
+ghost use Rattle.rules.specs.Moments.{any, ◌of_edition◌, ◌seeing_header◌, ◌seeing_escrows◌, ◌seeing_receipts◌};
 ghost use Rattle.rules.specs.Settle.{Sweep, sweep_escrow, swept_receipts, swept, settle};
 ghost use Rattle.rules.specs.Report.{adds_of};
 ghost use Rattle.rules.proofs.Good.{Good};
@@ -194,7 +194,7 @@ fn sweep_adds(
     limit: u64,
 ) -> [u64; FIGURES]
     requires { Sweeps edition header.now escrows.now receipts.now time }
-    ensures { (K : Ledger) → let L = any K of_edition edition with_header header with_escrows escrows with_receipts receipts in Good L.entry → result ≡ figures 0 0 L.entry (swept time limit L.entry).tables }
+    ensures { (K : Ledger) → let L = any K of_edition edition seeing_header header seeing_escrows escrows seeing_receipts receipts in Good L.entry → result ≡ figures 0 0 L.entry (swept time limit L.entry).tables }
 {
     let mut marks = [0u8; MAX_ESCROWS];
     let accepts = receipt_turns(edition, header, escrows, receipts, &mut marks, time, limit);
@@ -213,7 +213,7 @@ pub fn adds(
     s: Submission,
 ) -> [u64; FIGURES]
     requires { Adds edition header.now escrows.now receipts.now s }
-    ensures { (K : Ledger) → let L = any K of_edition edition with_header header with_escrows escrows with_receipts receipts in Settles L.entry s → result ≡ adds_of L.entry s (outcome 0 (settle s L.entry).word (settle s L.entry).after) }
+    ensures { (K : Ledger) → let L = any K of_edition edition seeing_header header seeing_escrows escrows seeing_receipts receipts in Settles L.entry s → result ≡ adds_of L.entry s (outcome 0 (settle s L.entry).word (settle s L.entry).after) }
 {
     let op = s.op;
     match op {

@@ -5,7 +5,7 @@
 ghost use Rattle.std.specs.Prelude.{◌≡◌, length};
 ghost use Rattle.rules.specs.Limits;
 ghost use Rattle.rules.specs.Ledger.{Ledger, Sized};
-ghost use Rattle.rules.specs.Moments.{tables, lent, any, ◌of_edition◌, ◌with_header◌, ◌with_escrows◌, ◌with_receipts◌};
+ghost use Rattle.rules.specs.Moments.{tables, lent, any, ◌of_edition◌, ◌seeing_header◌, ◌seeing_escrows◌, ◌seeing_receipts◌};
 ghost use Rattle.rules.specs.Report.{report_of, adds_of};
 ghost use Rattle.rules.specs.Settle.{settle};
 ghost use Rattle.rules.specs.Sound.{Ready};
@@ -25,7 +25,7 @@ fn planned(
     decided: Read,
 ) -> [u64; FIGURES]
     requires { Plans edition header.now escrows.now receipts.now decided }
-    ensures { (K : Ledger) → let L = any K of_edition edition with_header header with_escrows escrows with_receipts receipts in (decided.number ≡ 0 → Settles L.entry decided.submission) → result ≡ adds_of L.entry decided.submission (finish decided.number (settle decided.submission L.entry) L.entry) }
+    ensures { (K : Ledger) → let L = any K of_edition edition seeing_header header seeing_escrows escrows seeing_receipts receipts in (decided.number ≡ 0 → Settles L.entry decided.submission) → result ≡ adds_of L.entry decided.submission (finish decided.number (settle decided.submission L.entry) L.entry) }
 {
     if decided.number != 0 {
         return [0, 0, 0, 0, 0];

@@ -48,8 +48,8 @@ pub record Part : Type 0 where
 abbrev part : Pair → List ℕ → ℕ × ℕ → Part
 part lent words place = record { words = words; place = place; lent = lent }
 
-pub sole_escrow_row : Sole escrow_row_kinds.ps escrow_row_kinds.r escrow_row_reads.Learnt Part (λ κs x e. part (pair e.0.now e.1.0.now) x.now x.ptr)
+pub sole_escrow_row : Sole escrow_row_kinds.ps escrow_row_kinds.r escrow_row_reads.Learnt Part (λ κs x e. part (pair e.0.now e.1.0.now) x.now x.ref_ptr)
 sole_escrow_row κs a x y v w p q = ap₂ (part (pair a.0.now a.1.0.now)) (one p.0 q.0) (one p.1 q.1)
 
-pub sole_receipt_row : Sole receipt_row_kinds.ps receipt_row_kinds.r receipt_row_reads.Learnt Part (λ κs x e. part (pair e.0.now e.1.0.now) x.now x.ptr)
+pub sole_receipt_row : Sole receipt_row_kinds.ps receipt_row_kinds.r receipt_row_reads.Learnt Part (λ κs x e. part (pair e.0.now e.1.0.now) x.now x.ref_ptr)
 sole_receipt_row κs a x y v w p q = ap₂ (part (pair a.0.now a.1.0.now)) (one p.0 q.0) (one p.1 q.1)

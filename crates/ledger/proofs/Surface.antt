@@ -3,7 +3,7 @@
 use mathlib.Core.Path.{refl, ap}
 use lib.Dec.{lit<, lit≤}
 use Rattle.rules.specs.Ledger.{Ledger, first_edition}
-use Rattle.rules.specs.Moments.{Slice, tables}
+use Rattle.rules.specs.Moments.{Slice, View, tables}
 use Rattle.rules.specs.Record.{read_of}
 use Rattle.rules.specs.Results.{Ran, exits, Pair, pair, Result, by_fresh, by_submit, by_lookup, wallet_standing, place_of_escrow, escrow_row, place_of_receipt, receipt_row, by_read, by_write, by_status, Meets}
 use Rattle.rules.specs.Runs.{Surface, CallsAreListed, CallsDecide, RunsAddUp, RunsRefuseRetries, RetriesChangeNothing}
@@ -39,7 +39,7 @@ abbrev pub five : {X : Type 0} → Slice × (Slice × (Slice × (Slice × (Slice
 five t = tables first_edition t.0 t.1.0 t.1.1.0 t.1.1.1.0 t.1.1.1.1.0
 
 -- the header and one table, with which those of a lookup begin
-abbrev pub two : {X : Type 0} → Slice × (Slice × X) → Pair
+abbrev pub two : {X : Type 0} → View × (View × X) → Pair
 two t = pair t.0.now t.1.0.now
 
 -- one call of each public function

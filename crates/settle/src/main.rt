@@ -1,56 +1,78 @@
 // Settles the records on standard input on a fresh ledger of 64 wallets, 128 escrows, 128 receipts and 512 journal rows. A line for each:
-// its ordinal, the answer, the word. Then the granted total.
+// its ordinal, the answer, the word. Then the granted total. A read or a write that fails ends the program, and is told on standard error.
 #![tactic(auto)]
 
-use libc::{STDIN_FILENO, STDOUT_FILENO};
 use rules::limits::{GRANTED, RECORD_BYTES};
+use std::io;
+use std::io::{BufReader, Read};
 
 const LAST_ORDINAL: u64 = 18446744073709551615;
 
-fn line(ordinal: u64, number: u64, word: u64) {
-    io::print_decimal(STDOUT_FILENO, ordinal);
-    io::write_all(STDOUT_FILENO, b" ");
-    io::print_decimal(STDOUT_FILENO, number);
-    io::write_all(STDOUT_FILENO, b" ");
-    io::print_decimal(STDOUT_FILENO, word);
-    io::write_all(STDOUT_FILENO, b"\n");
+fn line(rt: &impl Print, ordinal: u64, number: u64, word: u64) -> io::Result<()> {
+    println!(rt; "{ordinal} {number} {word}")
 }
 
 // One record: reads it, submits it and writes its line. True if the input may go on. A short last piece is submitted as it is: not being
-// 108 bytes long, it is answered 3.
+// 108 bytes long, it is answered 3. The record that was read before is cleared away, and its memory used again.
 fn step(
+    rt: &impl Print,
+    input: &mut impl Read,
+    record: &mut Vec<u8>,
     ordinal: u64,
     header: &mut [u64],
     wallets: &mut [u64],
     escrows: &mut [u64],
     receipts: &mut [u64],
     journal: &mut [u64],
-) -> bool {
-    let mut buffer = [0u8; 108];
-    let n = io::read_full(STDIN_FILENO, &mut buffer);
+) -> io::Result<bool> {
+    record.clear();
+    let n = input.take(RECORD_BYTES as u64).read_to_end(record)?;
     if n == 0 {
-        return false;
+        return Ok(false);
     }
-    let answer = ledger::submit(header, wallets, escrows, receipts, journal, &buffer[..n]);
-    line(ordinal, answer.number, answer.word);
-    n == RECORD_BYTES
+    let answer = ledger::submit(
+        header,
+        wallets,
+        escrows,
+        receipts,
+        journal,
+        record.as_slice(),
+    );
+    line(rt, ordinal, answer.number, answer.word)?;
+    Ok(n == RECORD_BYTES)
 }
 
 // Every record of the input. The ordinal counts the turns, so that the loop is seen to end.
 fn run(
+    rt: &(impl Print + Input + AllocGlobal),
     header: &mut [u64],
     wallets: &mut [u64],
     escrows: &mut [u64],
     receipts: &mut [u64],
     journal: &mut [u64],
-) {
-    let mut ordinal: u64 = 1;
-    while ordinal < LAST_ORDINAL && step(ordinal, header, wallets, escrows, receipts, journal) {
-        ordinal += 1;
+) -> io::Result<()> {
+    let mut input = BufReader::new(rt.alloc(), rt.reader())?;
+    let mut record = Vec::with_capacity(rt.alloc(), RECORD_BYTES)?;
+    for ordinal in 1..LAST_ORDINAL {
+        let goes_on = step(
+            rt,
+            &mut input,
+            &mut record,
+            ordinal,
+            header,
+            wallets,
+            escrows,
+            receipts,
+            journal,
+        )?;
+        if !goes_on {
+            break;
+        }
     }
+    Ok(())
 }
 
-fn main() {
+fn main(rt: HostRuntime) -> io::Result<()> {
     let mut header = [0u64; 8];
     let mut wallets = [0u64; 384];
     let mut escrows = [0u64; 1024];
@@ -64,13 +86,13 @@ fn main() {
         &mut journal,
     );
     run(
+        &rt,
         &mut header,
         &mut wallets,
         &mut escrows,
         &mut receipts,
         &mut journal,
-    );
-    io::write_all(STDOUT_FILENO, b"total ");
-    io::print_decimal(STDOUT_FILENO, header[GRANTED]);
-    io::write_all(STDOUT_FILENO, b"\n");
+    )?;
+    let granted = header[GRANTED];
+    println!(rt; "total {granted}")
 }

@@ -1,12 +1,12 @@
 -- The parties' pass as a whole: two ids that are the same, an index to go by, an escrow that is wrong, and each wallet's locked at the end.
 use mathlib.Core.Path.{◌≡◌, sym, ap, ◌∙◌}
-use mathlib.Core.Bool.{Bool, true, false, not}
+use mathlib.Core.Bool.{Bool, true, false}
 use mathlib.Core.List.{List}
 use Prim.Native.Nat.{ℕ, ◌+◌}
 use native.Mathlib.Omega.{arith}
 use lib.Dec.{eqb, ltb}
 use lib.ListN.{replicate, length-replicate}
-use borrow.Author.Tests.{not-true, not-false, lt-ltb}
+use borrow.Author.Tests.{lt-ltb}
 use Rattle.rules.specs.Limits.{WALLET_LEN, ID, LOCKED}
 use Rattle.rules.specs.Table.{word, all, every, distinct}
 use Rattle.rules.specs.Sound.{escrow_tests}
@@ -41,17 +41,17 @@ module _ (len : ℕ) (w : List ℕ) (n : ℕ) (e : List ℕ) (m : ℕ) (ids t : 
       }
 
   module _ (i : Indexed w n ids t) (sums : List ℕ) (r : Bool) (h : HeldAll len w n e m sums r) where
-    pub wrong_escrow : not r ≡ true → false ≡ parties_right len w n e m
+    pub wrong_escrow : r ≡ false → false ≡ parties_right len w n e m
     unfolding parties_right
     wrong_escrow z =
-        let x : every m (λ i. all (escrow_tests (parties len w n e m) i)) ≡ false = sym h.right ∙ not-true r z in
+        let x : every m (λ i. all (escrow_tests (parties len w n e m) i)) ≡ false = sym h.right ∙ z in
         rw (indexed_apart w n ids t i, x)
 
-    pub locked_all : not r ≡ false → (b : Bool) → b ≡ every n (locked_is w sums) → b ≡ parties_right len w n e m
+    pub locked_all : r ≡ true → (b : Bool) → b ≡ every n (locked_is w sums) → b ≡ parties_right len w n e m
     unfolding parties_right
     locked_all z b q =
-        let x : every m (λ i. all (escrow_tests (parties len w n e m) i)) ≡ true = sym h.right ∙ not-false r z in
+        let x : every m (λ i. all (escrow_tests (parties len w n e m) i)) ≡ true = sym h.right ∙ z in
         let y : every n (locked_is w sums) ≡ every n (λ i. eqb (word w WALLET_LEN i LOCKED) (held_of len w e m i)) =
         every_ext n (locked_is w sums) (λ i. eqb (word w WALLET_LEN i LOCKED) (held_of len w e m i))
-        (λ i l. ap (eqb (word w WALLET_LEN i LOCKED)) ((h.held (not-false r z)).sum i l)) in
+        (λ i l. ap (eqb (word w WALLET_LEN i LOCKED)) ((h.held z).sum i l)) in
         rw (indexed_apart w n ids t i, x) (q ∙ y)

@@ -1,10 +1,9 @@
 -- The parts together: the ledger is not sound where one part fails, and is what the last part says where all others hold.
 use mathlib.Core.Path.{◌≡◌, refl, sym, ◌∙◌}
-use mathlib.Core.Bool.{Bool, true, false, not, ◌&&◌, and-false, and-true}
+use mathlib.Core.Bool.{Bool, true, false, ◌&&◌, and-false, and-true}
 use mathlib.Core.List.{List}
 use Prim.Native.Nat.{ℕ}
 use lib.Dec.{eqb, leb}
-use borrow.Author.Tests.{not-true, not-false}
 use Rattle.rules.specs.Limits.{GRANTED, MAX_GRANTED_MICRO, ID, LOCKED}
 use Rattle.rules.specs.Table.{all, every, distinct, sum}
 use Rattle.rules.specs.Ledger.{ledger_of, head, wallet, wallet_count, escrow_count, receipt_count, entry_count}
@@ -41,9 +40,9 @@ module _ (w t p r j s : Bool) (e : w && (t && (p && (r && j))) ≡ s) where
   last_5 a b c d = sym (rw (a, b, c, d)) ∙ e
 
 module _ (ed : Edition) (h w e r j : List ℕ) where
-  pub no_header : (b : Bool) → b ≡ all (header_tests (ledger_of ed h w e r j)) → not b ≡ true → false ≡ sound (ledger_of ed h w e r j)
+  pub no_header : (b : Bool) → b ≡ all (header_tests (ledger_of ed h w e r j)) → b ≡ false → false ≡ sound (ledger_of ed h w e r j)
   unfolding sound
-  no_header b x z = let y : all (header_tests (ledger_of ed h w e r j)) ≡ false = sym x ∙ not-true b z in rw y
+  no_header b x z = let y : all (header_tests (ledger_of ed h w e r j)) ≡ false = sym x ∙ z in rw y
 
   -- what each pass answers for
   abbrev W : Bool
@@ -80,19 +79,19 @@ module _ (ed : Edition) (h w e r j : List ℕ) where
     unfolding sound credits held_in parties_right
     whole = rw y (reorder W T D E K R J)
 
-    pub no_wallets : (b : Bool) → b ≡ W → not b ≡ true → false ≡ sound (ledger_of ed h w e r j)
-    no_wallets b x z = fail_1 W T P R J _ whole (sym x ∙ not-true b z)
+    pub no_wallets : (b : Bool) → b ≡ W → b ≡ false → false ≡ sound (ledger_of ed h w e r j)
+    no_wallets b x z = fail_1 W T P R J _ whole (sym x ∙ z)
 
-    pub no_total : (b : Bool) → b ≡ T → not b ≡ true → false ≡ sound (ledger_of ed h w e r j)
-    no_total b x z = fail_2 W T P R J _ whole (sym x ∙ not-true b z)
+    pub no_total : (b : Bool) → b ≡ T → b ≡ false → false ≡ sound (ledger_of ed h w e r j)
+    no_total b x z = fail_2 W T P R J _ whole (sym x ∙ z)
 
-    pub no_parties : (b : Bool) → b ≡ P → not b ≡ true → false ≡ sound (ledger_of ed h w e r j)
-    no_parties b x z = fail_3 W T P R J _ whole (sym x ∙ not-true b z)
+    pub no_parties : (b : Bool) → b ≡ P → b ≡ false → false ≡ sound (ledger_of ed h w e r j)
+    no_parties b x z = fail_3 W T P R J _ whole (sym x ∙ z)
 
-    pub no_receipts : (b : Bool) → b ≡ R → not b ≡ true → false ≡ sound (ledger_of ed h w e r j)
-    no_receipts b x z = fail_4 W T P R J _ whole (sym x ∙ not-true b z)
+    pub no_receipts : (b : Bool) → b ≡ R → b ≡ false → false ≡ sound (ledger_of ed h w e r j)
+    no_receipts b x z = fail_4 W T P R J _ whole (sym x ∙ z)
 
-    pub the_entries : (a b c d f : Bool) → a ≡ W → not a ≡ false → b ≡ T → not b ≡ false → c ≡ P → not c ≡ false → d ≡ R → not d ≡ false
+    pub the_entries : (a b c d f : Bool) → a ≡ W → a ≡ true → b ≡ T → b ≡ true → c ≡ P → c ≡ true → d ≡ R → d ≡ true
         → f ≡ J → f ≡ sound (ledger_of ed h w e r j)
     the_entries a b c d f x k y l z m u n v =
-        v ∙ last_5 W T P R J _ whole (sym x ∙ not-false a k) (sym y ∙ not-false b l) (sym z ∙ not-false c m) (sym u ∙ not-false d n)
+        v ∙ last_5 W T P R J _ whole (sym x ∙ k) (sym y ∙ l) (sym z ∙ m) (sym u ∙ n)

@@ -1,4 +1,4 @@
-/* For timing on a processor that is not x86-64; tools/native-archive compiles it. The module of `rt staticlib` takes the place of a large
+/* For timing on a processor that is not x86-64; tools/native-archive compiles it. The module of `rt lib` takes the place of a large
    result as a first argument, as C does on x86-64. Elsewhere C has a register of its own for it, so a call goes through here. */
 #include <stddef.h>
 #include <stdint.h>

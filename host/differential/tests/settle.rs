@@ -1,8 +1,9 @@
 //! The program `settle` on whole files of records, against the second program's run of the same
 //! file.
 //!
-//! `MILEBEACON_SETTLE` names the program; without it the one that `rt check settle` builds is taken,
-//! and nothing is compared if there is none. `MILEBEACON_RUNNER` names an emulator to run it under.
+//! `MILEBEACON_SETTLE` names the program; without it the one that `rt run` builds in `crates/settle`
+//! is taken, and nothing is compared if there is none. `MILEBEACON_RUNNER` names an emulator to run
+//! it under.
 
 use std::env;
 use std::fs;
@@ -25,7 +26,7 @@ fn repository() -> PathBuf {
 fn settle() -> Option<PathBuf> {
     match env::var_os("MILEBEACON_SETTLE") {
         Some(path) => Some(PathBuf::from(path)),
-        None => Some(repository().join("target/bin/settle")).filter(|path| path.is_file()),
+        None => Some(repository().join("crates/settle/out/settle")).filter(|path| path.is_file()),
     }
 }
 
@@ -67,7 +68,7 @@ fn settle_writes_what_the_second_program_writes() {
     let program = match settle() {
         Some(program) => program,
         None => {
-            println!("there is no target/bin/settle; nothing was compared");
+            println!("there is no crates/settle/out/settle; nothing was compared");
             return;
         }
     };

@@ -35,10 +35,12 @@ close_refusal-requires c =
     (header_there c.requires, wallets_few c.requires, wallets_fit c.requires, escrows_fit c.requires, c.in-12.is, c.requires.sized)
 
 pub paying_refusal-requires : goal.paying_refusal-requires
-paying_refusal-requires c = let h = c.in-2 in ?
+paying_refusal-requires c =
+    (header_there c.requires, wallets_few c.requires, wallets_fit c.requires, entries c.requires, now_time c.requires, either TRANSFER _ (omega (arith, op_low c.requires)) (omega arith), c.requires.sized)
 
 pub closing_refusal-requires : goal.closing_refusal-requires
-closing_refusal-requires c = let h = c.in-4 in ?
+closing_refusal-requires c =
+    (header_there c.requires, escrows_few c.requires, either RELEASE _ (omega arith) (omega arith), c.requires.sized)
 
 pub returns-in-1 : goal.returns-in-1
 returns-in-1 c = c.grant_refusal.ensures (ledger_of _ [] [] _ _ [])
@@ -73,4 +75,7 @@ returns-in_default c =
     absurd (omega arith)
 
 pub returns-in_default-2 : goal.returns-in_default-2
-returns-in_default-2 c = let h = c.in_default in ?
+returns-in_default-2 c =
+    absurd (by_op (λ _. ⊥) c.args.s.op (op_low c.requires) (op_high c.requires) (op_not_8 c.requires)
+    (λ e. omega arith) (λ e. omega arith) (λ e. omega arith) (λ e. omega arith) (λ e. omega arith)
+    (λ e. omega arith) (λ e. omega arith) (λ e. omega arith) (λ e. omega arith) (λ e. omega arith) (λ e. omega arith))

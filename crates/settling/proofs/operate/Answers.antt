@@ -1,4 +1,5 @@
 -- `settling::operate` meets its contract: each arm by its own contract, what that needs out of soundness and the refusals.
+use native.Mathlib.Omega.{arith}
 use mathlib.Core.Path.{ap}
 use mathlib.Core.List.{[]}
 use Rattle.rules.specs.Ledger.{ledger_of, set_receipts}
@@ -92,6 +93,6 @@ returns-in-12 c = λ K. operated CLOSE _ _ _ c.in-12.is (c.close.ensures (ledger
 pub returns-in_default : goal.returns-in_default
 returns-in_default c =
     let f = formed _ _ _ _ _ _ _ c.requires.settles in
-    let few = c.in_default.rest.0.0.0.0.0 in
-    let some = c.in_default.rest in
-    absurd (by_op (λ _. ⊥) _ f.low f.high f.not_8 few.0.0.0.0.0.1 few.0.0.0.0.1 few.0.0.0.1 few.0.0.1 few.0.1 few.1 some.0.0.0.0.1 some.0.0.0.1 some.0.0.1 some.0.1 some.1)
+    absurd (by_op (λ _. ⊥) _ f.low f.high f.not_8
+    (λ e. omega arith) (λ e. omega arith) (λ e. omega arith) (λ e. omega arith) (λ e. omega arith)
+    (λ e. omega arith) (λ e. omega arith) (λ e. omega arith) (λ e. omega arith) (λ e. omega arith) (λ e. omega arith))

@@ -18,7 +18,7 @@ enter-requires c =
 
 pub shape_of-header : goal.shape_of-header
 shape_of-header c =
-    header_kept _ _ _ _ _ _ _ _ _ _ _ _ c.requires c.operate-word.ensures c.enter.new.0 c.enter.auto.header
+    header_kept _ _ _ _ _ _ _ _ _ _ _ _ c.requires c.operate-word.ensures c.enter.new.header c.enter.auto.header
 
 pub returns : goal.returns
 returns c =

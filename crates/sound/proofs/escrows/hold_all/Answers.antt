@@ -100,7 +100,7 @@ held_in-requires c = row_here (goal.at.held_in-requires c).In-loop-k
 pub overflow_add-sums : goal.overflow_add-sums
 overflow_add-sums c =
     let l = c.loop-k in
-    omega (arith, sums_fit _ _ _ _ c.args.m l.k _ _ _ _ _ l.invariant.2 l.invariant.1 (is_right (goal.at.overflow_add-sums c).After-way_told-1) (was_sent (goal.at.overflow_add-sums c).After-way_told-1) (omega (arith, c.loop-k-test.true, c.requires.0.fewer)) c.held_in.ensures)
+    omega (arith, sums_fit _ _ _ _ c.args.m l.k _ _ _ _ _ l.invariant.2 l.invariant.1 (is_right (goal.at.overflow_add-sums c).Else-from-eq0) (was_sent (goal.at.overflow_add-sums c).Else-from-eq0) (omega (arith, c.loop-k-test.true, c.requires.0.fewer)) c.held_in.ensures)
 
 pub offset_bounds-sums-from-in-loop-k : goal.offset_bounds-sums-from-in-loop-k
 offset_bounds-sums-from-in-loop-k c = omega (arith, numbered (goal.at.offset_bounds-sums-from-in-loop-k c).Else-from-eq0)
@@ -113,8 +113,8 @@ loop-k-preserved c =
     let l = c.loop-k in
     let p = c.requires in (
       search rules,
-      every_on _ _ l.invariant.1 (is_right (goal.at.loop-k-preserved c).After-way_told-1),
-      held_more _ _ _ _ _ _ _ _ _ l.invariant.2 (indexed_apart _ _ _ _ p.1) p.0.few (was_sent (goal.at.loop-k-preserved c).After-way_told-1) c.held_in.ensures,
+      every_on _ _ l.invariant.1 (is_right (goal.at.loop-k-preserved c).Else-from-eq0),
+      held_more _ _ _ _ _ _ _ _ _ l.invariant.2 (indexed_apart _ _ _ _ p.1) p.0.few (was_sent (goal.at.loop-k-preserved c).Else-from-eq0) c.held_in.ensures,
     )
 
 pub returns : goal.returns

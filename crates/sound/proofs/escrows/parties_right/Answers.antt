@@ -20,9 +20,9 @@ hold_all-requires c = (
 pub returns-then-not-hold_all : goal.returns-then-not-hold_all
 returns-then-not-hold_all c =
     wrong_escrow _ _ _ _ _ _ _ (indexed _ _ _ _ _ _ _ _ c.requires c.copy_ids.ensures c.fill-most.ensures c.if-most-eq0.false) _ _
-    c.hold_all.ensures (ap not c.if-not-hold_all.true)
+    c.hold_all.ensures c.if-not-hold_all.true
 
 pub returns : goal.returns
 returns c =
     locked_all _ _ _ _ _ _ _ (indexed _ _ _ _ _ _ _ _ c.requires c.copy_ids.ensures c.fill-most.ensures c.if-most-eq0.false) _ _
-    c.hold_all.ensures (ap not c.if-not-hold_all.false) _ c.locked_right.ensures
+    c.hold_all.ensures c.if-not-hold_all.false _ c.locked_right.ensures

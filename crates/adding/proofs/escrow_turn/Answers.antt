@@ -1,0 +1,12 @@
+-- `adding::escrow_turn` meets its contract: a due escrow is counted with its amount, any other is passed over.
+use Rattle.adding.proofs.Freed.{escrow_expired, escrow_passed}
+use borrow.Author.Rules.{rules}
+use Rattle.adding.proofs.escrow_turn.Goals as goal
+
+pub returns-then-is_due : goal.returns-then-is_due
+returns-then-is_due c =
+    escrow_expired _ _ _ _ _ _ _ c.escrow-state.ensures c.escrow-deadline.ensures c.is_due.ensures _ c.if-is_due.true c.escrow-amount.ensures
+
+pub returns : goal.returns
+returns c =
+    escrow_passed _ _ _ _ _ _ _ c.escrow-state.ensures c.escrow-deadline.ensures c.is_due.ensures c.if-is_due.false
