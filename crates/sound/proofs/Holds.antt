@@ -11,7 +11,7 @@ use lib.ListN.{get_or, set, length-set}
 use lib.Seq.{get_or-set_same, get_or-set_other}
 use borrow.Author.Tests.{eq-eqb, ne_eqb, ltb-true}
 use Rattle.rules.specs.Limits.{WALLET_LEN, MAX_WALLETS, MAX_ESCROWS, MAX_AMOUNT_MICRO, ID, FROM, TO, ESCROW_AMOUNT, ESCROW_STATE, IS_OPEN}
-use Rattle.rules.specs.Table.{word, all, every, distinct, sum}
+use Rattle.rules.specs.Table.{word, all, every, distinct}
 use Rattle.rules.specs.Ledger.{row_of}
 use Rattle.rules.specs.Sound.{escrow_alone_tests, escrow_tests, held_in}
 use Rattle.rules.proofs.Bools.{and_intro, and_none_snd}

@@ -4,7 +4,6 @@ use Rattle.rules.specs.Ledger.{Ledger}
 use Rattle.rules.specs.Replay.{Gone, gone, verdict_of, told}
 use Rattle.rules.specs.declared.Found.{Found}
 use Rattle.rules.specs.declared.Verdict.{Verdict}
-use borrow.Author.Rules.{rules}
 use Rattle.milebeacon.proofs.milebeacon_replay.Goals as goal
 
 told_by : {found : Found} {left : Ledger} {g : Gone Found} {v : Verdict} → gone found left ≡ g → v ≡ verdict_of found → gone v left ≡ told g

@@ -1,7 +1,6 @@
 -- `milebeacon::milebeacon_wallet_row` meets its contract: what the lookup found, told in numbers.
 use mathlib.Core.Path.{ap, ◌∙◌}
 use Rattle.rules.specs.Wallets.{standing_of}
-use borrow.Author.Rules.{rules}
 use Rattle.milebeacon.proofs.milebeacon_wallet_row.Goals as goal
 
 pub returns : goal.returns

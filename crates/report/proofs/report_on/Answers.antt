@@ -1,20 +1,15 @@
 -- `report::report_on` meets its contract. The invariant: k entries were read, what is left to read gives the whole, nothing is named yet, and the tables
 -- are ready for the next entry.
 use mathlib.Core.Path.{refl}
-use Prim.Native.Nat.{◌-◌}
-use Rattle.rules.specs.Ledger.{ledger_of}
-use Rattle.rules.specs.Promises.{SameLengths}
-use Rattle.rules.specs.Report.{report_of}
-use Rattle.report.proofs.Laws.{part_length, Reporting, reporting_none, one_more, stops_so, all_read}
+use Rattle.report.proofs.Laws.{part_length, reporting_none, one_more, stops_so, all_read}
 use borrow.Author.Rules.{rules}
 use Rattle.report.proofs.report_on.Goals as goal
 
 pub loop-k-init : goal.loop-k-init
-loop-k-init c =
-    (
-      record { edition = refl; header = refl; wallets = refl; escrows = refl; receipts = refl; journal = refl },
-      reporting_none _ _ _ c.requires.1 c.requires.2,
-    )
+loop-k-init c = (
+  record { edition = refl; header = refl; wallets = refl; escrows = refl; receipts = refl; journal = refl },
+  reporting_none _ _ _ c.requires.1 c.requires.2,
+)
 
 pub count_entry-more-requires : goal.count_entry-more-requires
 count_entry-more-requires c = (c.requires.0, c.loop-k.invariant.1.ready, part_length c.args.recording.now _ c.loop-k-test.true)

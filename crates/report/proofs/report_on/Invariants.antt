@@ -1,11 +1,10 @@
 -- `report::report_on` meets its contract. The invariant: k entries were read, what is left to read gives the whole, nothing is named yet, and the tables
 -- are ready for the next entry.
-use mathlib.Core.Path.{refl}
 use Prim.Native.Nat.{◌-◌}
 use Rattle.rules.specs.Ledger.{ledger_of}
 use Rattle.rules.specs.Promises.{SameLengths}
 use Rattle.rules.specs.Report.{report_of}
-use Rattle.report.proofs.Laws.{part_length, Reporting, reporting_none, one_more, stops_so, all_read}
+use Rattle.report.proofs.Laws.{Reporting}
 use Rattle.report.proofs.report_on.Given as goal
 
 abbrev pub invariant-loop-k : goal.invariant-loop-k
