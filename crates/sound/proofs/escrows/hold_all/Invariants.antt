@@ -12,7 +12,6 @@ use Rattle.rules.proofs.Counts.{every_none, every_on, every_fails, every_passed}
 use Rattle.rules.proofs.Rows.{row_end}
 use Rattle.index.proofs.Laws.{indexed_apart}
 use Rattle.sound.specs.Parts.{parties, Held}
-use Rattle.sound.proofs.Holds.{Sent, sent, not_sent, sent_row, row_wrong, row_right, sums_fit, held_end, held_more}
 use Rattle.sound.proofs.escrows.hold_all.Given as goal
 
 abbrev pub invariant-loop-k : goal.invariant-loop-k
