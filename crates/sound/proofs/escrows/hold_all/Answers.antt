@@ -1,17 +1,14 @@
 -- `escrows::hold_all` meets its contract. The loop's invariant: the escrows passed are right, and the sums are those over them.
-use Prim.Native.Nat.{◌+◌, ◌-◌, ◌*◌, ◌≤◌}
+use Prim.Native.Nat.{◌≤◌}
 use native.Mathlib.Omega.{arith}
-use lib.ListN.{length}
 use mathlib.Core.Path.{◌≡◌}
 use mathlib.Core.Bool.{true, false≢true}
-use borrow.Author.Tests.{not-true, not-false}
-use Rattle.rules.specs.Limits.{ESCROW_LEN, MAX_WALLETS, FROM, TO}
-use Rattle.rules.specs.Table.{word, all, every}
+use Rattle.rules.specs.Limits.{MAX_WALLETS, FROM, TO}
+use Rattle.rules.specs.Table.{word, all}
 use Rattle.rules.specs.Sound.{escrow_tests}
-use Rattle.rules.proofs.Counts.{every_none, every_on, every_fails, every_passed}
-use Rattle.rules.proofs.Rows.{row_end}
+use Rattle.rules.proofs.Counts.{every_none, every_on, every_fails}
 use Rattle.index.proofs.Laws.{indexed_apart}
-use Rattle.sound.specs.Parts.{parties, Held}
+use Rattle.sound.specs.Parts.{parties}
 use Rattle.sound.proofs.Holds.{Sent, sent, not_sent, sent_row, row_wrong, row_right, sums_fit, held_more}
 use borrow.Author.Rules.{rules}
 use Rattle.sound.proofs.escrows.hold_all.Goals as goal
