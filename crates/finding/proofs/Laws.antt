@@ -1,7 +1,7 @@
 -- What the checks and the operations use of the parties that were found: where the operation names a wallet, it was looked up.
 use mathlib.Core.Path.{◌≡◌, ap, ◌∙◌}
 use mathlib.Core.List.{List}
-use mathlib.Core.Bool.{Bool, true, cond, ◌||◌, or-false}
+use mathlib.Core.Bool.{Bool, true, ◌||◌, or-false}
 use Prim.Native.Nat.{ℕ}
 use lib.Dec.{eqb}
 use lib.ListN.{get_or}

@@ -11,7 +11,7 @@ use lib.ListN.{get_or, set, length-set}
 use lib.Seq.{get_or-set_same, get_or-set_other}
 use borrow.Author.Tests.{eq-eqb, ne_eqb, ltb-true}
 use Rattle.rules.specs.Limits.{WALLET_LEN, MAX_WALLETS, MAX_ESCROWS, MAX_AMOUNT_MICRO, ID, FROM, TO, ESCROW_AMOUNT, ESCROW_STATE, IS_OPEN}
-use Rattle.rules.specs.Table.{word, all, every, distinct, sum}
+use Rattle.rules.specs.Table.{word, all, every, distinct}
 use Rattle.rules.specs.Ledger.{row_of}
 use Rattle.rules.specs.Sound.{escrow_alone_tests, escrow_tests, held_in}
 use Rattle.rules.proofs.Bools.{and_intro, and_none_snd}
@@ -150,6 +150,3 @@ held_more len w n e k to number h sums a d few s x =
           sum_step k (held i),
           held_other len w e (word w WALLET_LEN i ID) k (λ z. p (sym (first_row w n from i d l (sym z)))),
         )
-
-pub held_end : (len : ℕ) (w : List ℕ) (n : ℕ) (e : List ℕ) (m k : ℕ) (sums : List ℕ) → k ≤ m → m ≤ k → Held len w n e k sums → Held len w n e m sums
-held_end len w n e m k sums l g h = let q : k ≡ m = omega arith in rw q at h

@@ -1,6 +1,5 @@
 -- `adding::accepted` meets its contract: no link, or the amount of the linked escrow, if it is open and not stale.
 use Rattle.adding.proofs.Freed.{freed_no_link, freed_linked}
-use borrow.Author.Rules.{rules}
 use Rattle.adding.proofs.accepted.Goals as goal
 
 pub returns-then-link-eq0 : goal.returns-then-link-eq0

@@ -5,7 +5,6 @@ use Rattle.rules.specs.Refusals.{one_of, closing}
 use Rattle.settling.proofs.Facts.{good}
 use borrow.Author.Tests.{eq-eqb, ne_eqb}
 use Rattle.adding.proofs.Figures.{can_look, can_accept, can_sweep, granted, transferred, released, refunded, disputed, accepted, sweeps, nothing}
-use borrow.Author.Rules.{rules}
 use Rattle.adding.proofs.adds.Goals as goal
 
 pub escrow-amount-requires : goal.escrow-amount-requires

@@ -1,7 +1,6 @@
 -- `adding::auto_accepted` meets its contract, each way that it ends.
 use mathlib.Core.Path.{refl}
 use Rattle.adding.proofs.Freed.{not_auto, not_linked, was_marked, not_fresh, released_now}
-use borrow.Author.Rules.{rules}
 use Rattle.adding.proofs.auto_accepted.Goals as goal
 
 pub returns-then-auto-ne1 : goal.returns-then-auto-ne1

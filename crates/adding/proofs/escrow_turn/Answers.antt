@@ -1,6 +1,5 @@
 -- `adding::escrow_turn` meets its contract: a due escrow is counted with its amount, any other is passed over.
 use Rattle.adding.proofs.Freed.{escrow_expired, escrow_passed}
-use borrow.Author.Rules.{rules}
 use Rattle.adding.proofs.escrow_turn.Goals as goal
 
 pub returns-then-is_due : goal.returns-then-is_due

@@ -1,8 +1,6 @@
 -- `adding::escrow_turns` meets its contract. The invariant: so far the definition's loop has spent this much.
-use Prim.Native.Nat.{◌-◌}
 use native.Mathlib.Omega.{arith}
-use Rattle.adding.proofs.Escrows.{SoFar, start, can_turn, row_small, amount_small, next, ended, full}
-use borrow.Author.Rules.{rules}
+use Rattle.adding.proofs.Escrows.{start, can_turn, row_small, amount_small, next, ended, full}
 use Rattle.adding.proofs.escrow_turns.Goals as goal
 
 pub bounds-header-5 : goal.bounds-header-5

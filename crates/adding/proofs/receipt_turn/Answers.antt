@@ -1,6 +1,5 @@
 -- `adding::receipt_turn` meets its contract: a due receipt is counted with what it releases, any other is passed over.
 use Rattle.adding.proofs.Freed.{turn_closed, turn_passed}
-use borrow.Author.Rules.{rules}
 use Rattle.adding.proofs.receipt_turn.Goals as goal
 
 pub returns-then-is_due : goal.returns-then-is_due

@@ -1,8 +1,6 @@
 -- `adding::receipt_turns` meets its contract. The invariant: so far the definition's loop is laid out.
-use Prim.Native.Nat.{◌-◌}
 use native.Mathlib.Omega.{arith}
-use Rattle.adding.proofs.Receipts.{SoFar, start, can_turn, row_small, amount_small, next, ended, full}
-use borrow.Author.Rules.{rules}
+use Rattle.adding.proofs.Receipts.{start, can_turn, row_small, amount_small, next, ended, full}
 use Rattle.adding.proofs.receipt_turns.Goals as goal
 
 pub bounds-header-6 : goal.bounds-header-6

@@ -2,7 +2,6 @@
 use Rattle.rules.specs.Ledger.{set_receipts}
 use Rattle.adding.proofs.Escrows.{swept_figures}
 use Rattle.adding.proofs.Figures.{unmarked}
-use borrow.Author.Rules.{rules}
 use Rattle.adding.proofs.sweep_adds.Goals as goal
 
 pub receipt_turns-accepts-requires : goal.receipt_turns-accepts-requires

@@ -1,7 +1,6 @@
 -- `convert::convert` meets its contract.
-use Prim.Native.Nat.{◌-◌}
 use native.Mathlib.Omega.{arith}
-use Rattle.convert.proofs.Turned.{Turned, turned_none, turned_more, turned_all}
+use Rattle.convert.proofs.Turned.{turned_none, turned_more, turned_all}
 use borrow.Author.Rules.{rules}
 use Rattle.convert.proofs.convert.Goals as goal
 

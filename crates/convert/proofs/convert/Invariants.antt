@@ -1,7 +1,6 @@
 -- `convert::convert` meets its contract.
 use Prim.Native.Nat.{◌-◌}
-use native.Mathlib.Omega.{arith}
-use Rattle.convert.proofs.Turned.{Turned, turned_none, turned_more, turned_all}
+use Rattle.convert.proofs.Turned.{Turned}
 use Rattle.convert.proofs.convert.Given as goal
 
 abbrev pub invariant-loop-entry : goal.invariant-loop-entry

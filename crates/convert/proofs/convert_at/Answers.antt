@@ -2,7 +2,6 @@
 use native.Mathlib.Omega.{arith}
 use lib.ListN.{length-set}
 use Rattle.convert.proofs.Turned.{stored}
-use borrow.Author.Rules.{rules}
 use Rattle.convert.proofs.convert_at.Goals as goal
 
 pub bounds-recording-at-3 : goal.bounds-recording-at-3

@@ -1,6 +1,5 @@
 -- `convert::new_flags` meets its contract.
 use Rattle.convert.proofs.Turned.{flags_of_accept, flags_of_other}
-use borrow.Author.Rules.{rules}
 use Rattle.convert.proofs.new_flags.Goals as goal
 
 pub returns-then-old-eq-OLD_ACCEPT : goal.returns-then-old-eq-OLD_ACCEPT

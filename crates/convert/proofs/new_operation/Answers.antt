@@ -1,6 +1,5 @@
 -- `convert::new_operation` meets its contract.
 use Rattle.convert.proofs.Turned.{of_dispute, of_other}
-use borrow.Author.Rules.{rules}
 use Rattle.convert.proofs.new_operation.Goals as goal
 
 pub returns-then-old-eq-OLD_DISPUTE : goal.returns-then-old-eq-OLD_DISPUTE

@@ -1,6 +1,5 @@
 -- `counting::planned` meets its contract: a refusal adds nothing, and of a submission that settles it is what `adding` has worked out.
 use Rattle.counting.proofs.Laws.{plans_none, plans_so}
-use borrow.Author.Rules.{rules}
 use Rattle.counting.proofs.planned.Goals as goal
 
 pub returns-then-decided-ne0 : goal.returns-then-decided-ne0

@@ -1,12 +1,11 @@
 -- `editions::clear` meets its contract. The invariant: the first k words are zeros, and the rest are as they were.
-use mathlib.Core.Path.{◌≡◌, refl, ap, ◌∙◌}
-use mathlib.Core.List.{List, ◌++◌}
-use Prim.Native.Nat.{ℕ, ◌-◌, ◌≤◌, ◌<◌}
+use mathlib.Core.Path.{refl, ap, ◌∙◌}
+use mathlib.Core.List.{List}
+use Prim.Native.Nat.{ℕ, ◌<◌}
 use native.Mathlib.Omega.{arith}
-use lib.ListN.{length, set, drop, replicate, length-set}
+use lib.ListN.{length, set, length-set}
 use borrow.Author.Fill.{fill_none, fill_more}
 use Rattle.editions.proofs.Starts.{all_zeros}
-use borrow.Author.Rules.{rules}
 use Rattle.editions.proofs.clear.Goals as goal
 
 pub loop-k-init : goal.loop-k-init

@@ -1,11 +1,8 @@
 -- `editions::clear` meets its contract. The invariant: the first k words are zeros, and the rest are as they were.
-use mathlib.Core.Path.{◌≡◌, refl, ap, ◌∙◌}
-use mathlib.Core.List.{List, ◌++◌}
-use Prim.Native.Nat.{ℕ, ◌-◌, ◌≤◌, ◌<◌}
-use native.Mathlib.Omega.{arith}
-use lib.ListN.{length, set, drop, replicate, length-set}
-use borrow.Author.Fill.{fill_none, fill_more}
-use Rattle.editions.proofs.Starts.{all_zeros}
+use mathlib.Core.Path.{◌≡◌}
+use mathlib.Core.List.{◌++◌}
+use Prim.Native.Nat.{◌-◌, ◌≤◌}
+use lib.ListN.{length, drop, replicate}
 use Rattle.editions.proofs.clear.Given as goal
 
 abbrev pub invariant-loop-k : goal.invariant-loop-k

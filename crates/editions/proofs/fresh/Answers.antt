@@ -3,7 +3,6 @@ use mathlib.Core.Path.{ap}
 use mathlib.Core.Bool.{not}
 use Rattle.editions.proofs.Starts.{refused, started, header_long}
 use native.Mathlib.Omega.{arith}
-use borrow.Author.Rules.{rules}
 use Rattle.editions.proofs.fresh.Goals as goal
 
 pub returns-then-not-lengths_right : goal.returns-then-not-lengths_right

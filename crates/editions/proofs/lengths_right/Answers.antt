@@ -1,6 +1,5 @@
 -- `editions::lengths_right` meets its contract.
 use Rattle.editions.proofs.Starts.{lengths_by}
-use borrow.Author.Rules.{rules}
 use Rattle.editions.proofs.lengths_right.Goals as goal
 
 pub returns : goal.returns

@@ -1,7 +1,6 @@
 -- `envelope::envelope_refusal` meets its contract: one law, from what the search and each pick ensure.
 use native.Mathlib.Omega.{arith}
 use Rattle.envelope.proofs.Envelope.{refusal_by}
-use borrow.Author.Rules.{rules}
 use Rattle.envelope.proofs.envelope_refusal.Goals as goal
 
 pub overflow_add-not_yet_valid : goal.overflow_add-not_yet_valid

@@ -1,7 +1,6 @@
 -- `envelope::seen` meets its contract: signer and nonce are seen in n rows just if they are seen in the first i, or found in the row looked at last.
-use Prim.Native.Nat.{◌≤◌}
 use native.Mathlib.Omega.{arith}
-use Rattle.envelope.proofs.Search.{Known, left, seen_begins, seen_next, seen_ends}
+use Rattle.envelope.proofs.Search.{left, seen_begins, seen_next, seen_ends}
 use borrow.Author.Rules.{rules}
 use Rattle.envelope.proofs.seen.Goals as goal
 

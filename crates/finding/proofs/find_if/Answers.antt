@@ -1,7 +1,6 @@
 -- `finding::find_if` meets its contract: what is asked for is looked up.
 use mathlib.Core.Path.{◌∙◌, sym}
 use Rattle.finding.proofs.Laws.{asked}
-use borrow.Author.Rules.{rules}
 use Rattle.finding.proofs.find_if.Goals as goal
 
 pub returns-then-asked : goal.returns-then-asked

@@ -1,6 +1,5 @@
 -- `finding::find_parties` meets its contract: each wallet is looked up if the operation names it.
 use Rattle.finding.proofs.Laws.{by_parties}
-use borrow.Author.Rules.{rules}
 use Rattle.finding.proofs.find_parties.Goals as goal
 
 pub find_if-signer-requires : goal.find_if-signer-requires

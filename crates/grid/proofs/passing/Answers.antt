@@ -1,6 +1,5 @@
 -- `grid::passing` meets its contract: each test is that of its figure, and the first that holds is chosen (Laws.antt).
 use Rattle.grid.proofs.Laws.{first_by}
-use borrow.Author.Rules.{rules}
 use Rattle.grid.proofs.passing.Goals as goal
 
 pub returns : goal.returns

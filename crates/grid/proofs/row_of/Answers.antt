@@ -1,6 +1,5 @@
 -- `grid::row_of` meets its contract.
 use Rattle.grid.proofs.Laws.{row_in, row_out}
-use borrow.Author.Rules.{rules}
 use Rattle.grid.proofs.row_of.Goals as goal
 
 pub returns-then-op : goal.returns-then-op

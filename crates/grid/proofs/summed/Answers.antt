@@ -1,7 +1,6 @@
 -- `grid::summed` meets its contract: each sum fits, as the caller has shown.
 use lib.Dec.{lit<}
 use Rattle.grid.proofs.Laws.{fits_so}
-use borrow.Author.Rules.{rules}
 use Rattle.grid.proofs.summed.Goals as goal
 
 pub overflow_add-result : goal.overflow_add-result

@@ -6,7 +6,6 @@ use Rattle.rules.specs.Refusals.{first, operation_refusals}
 use Rattle.rules.specs.declared.WalletState.{WalletState}
 use Rattle.holds.specs.Terms.{term_refusals}
 use Rattle.holds.proofs.Claim.{by_parties, claim_by, claim_invalid}
-use borrow.Author.Rules.{rules}
 use Rattle.holds.proofs.claim_refusal.Goals as goal
 use Rattle.holds.proofs.claim_refusal.Goals.{After-find_wallet-requester}
 

@@ -19,7 +19,6 @@ escrow-deadline-requires c = (names (goal.at.escrow-deadline-requires c).After-e
 pub escrow-state-requires : goal.escrow-state-requires
 escrow-state-requires c = (names (goal.at.escrow-state-requires c).After-escrow_named-escrow, search rules, search rules)
 
--- LEFT: c.escrow_named-escrow.ensures c.escrow-from.ensures c.escrow-deadline.ensures c.escrow-state.ensures
 pub returns : goal.returns
 returns c =
     λ K. closing_by _ _ K.wallets _ K.receipts _ _ _ _ _ _ _ _ _ _

@@ -1,6 +1,5 @@
 -- `holds::receipt_named` meets its contract.
 use Rattle.holds.specs.Named.{named}
-use borrow.Author.Rules.{rules}
 use Rattle.holds.proofs.receipt_named.Goals as goal
 
 pub returns-then-number-count : goal.returns-then-number-count

@@ -19,7 +19,6 @@ receipt-deadline-requires c = (names (goal.at.receipt-deadline-requires c).After
 pub receipt-state-requires : goal.receipt-state-requires
 receipt-state-requires c = (names (goal.at.receipt-state-requires c).After-receipt_named-receipt, search rules)
 
--- LEFT: c.receipt_named-receipt.ensures c.receipt-requester.ensures c.receipt-deadline.ensures c.receipt-state.ensures
 pub returns : goal.returns
 returns c =
     λ K. reply_by K.edition _ K.wallets K.escrows _ _ _ _ _ _ _ _ _ _ _ _ _

@@ -29,7 +29,6 @@ overflow_add-window_too_short c = omega (arith, c.requires.2)
 pub overflow_add-window_too_long : goal.overflow_add-window_too_long
 overflow_add-window_too_long c = omega (arith, c.requires.2)
 
--- LEFT: c.escrow_named-escrow.ensures c.escrow-from.ensures c.escrow-to.ensures c.escrow-deadline.ensures c.escrow-state.ensures c.choose-r40.ensures c.choose-r39.ensures c.choose-r31.ensures
 pub returns : goal.returns
 returns c =
     λ K. terms_by _ _ K.wallets _ _ _ _ _ _ _ _ _ _ _ _ _ _ _ _ _ _

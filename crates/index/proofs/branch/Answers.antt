@@ -2,7 +2,6 @@
 use native.Mathlib.Omega.{arith}
 use Prim.Native.Nat.{◌+◌, ◌*◌, ◌%◌}
 use Rattle.index.specs.Index.{ROOTS, BRANCHES}
-use borrow.Author.Rules.{rules}
 use Rattle.index.proofs.branch.Goals as goal
 
 pub returns : goal.returns

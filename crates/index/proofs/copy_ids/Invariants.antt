@@ -1,9 +1,6 @@
 -- `index::copy_ids` meets its contract. The loop's invariant: the ids of the rows passed are copied.
-use native.Mathlib.Omega.{arith}
 use Prim.Native.Nat.{◌≤◌, ◌-◌}
-use mathlib.Core.Path.{◌≡◌}
 use Rattle.index.specs.Index.{Copied}
-use Rattle.index.proofs.Laws.{copied_none, copied_more}
 use Rattle.index.proofs.copy_ids.Given as goal
 
 abbrev pub invariant-loop-i : goal.invariant-loop-i

@@ -1,9 +1,7 @@
 -- `index::differ_each` meets its contract. The loop's invariant: `ok` says whether the ids passed differ.
-use native.Mathlib.Omega.{arith}
 use Prim.Native.Nat.{◌≤◌, ◌-◌}
-use mathlib.Core.Path.{◌≡◌, sym, ap, ◌∙◌}
+use mathlib.Core.Path.{◌≡◌}
 use Rattle.rules.specs.Table.{distinct}
-use Rattle.rules.proofs.Counts.{every_none, every_step}
 use Rattle.index.specs.Index.{id_at}
 use Rattle.index.proofs.differ_each.Given as goal
 

@@ -1,7 +1,6 @@
 -- `index::differs_before` meets its contract. The loop's invariant: `ok` says whether the rows passed have another id.
 use native.Mathlib.Omega.{arith}
-use Prim.Native.Nat.{◌≤◌, ◌-◌}
-use mathlib.Core.Path.{◌≡◌, sym, refl, ap, ◌∙◌}
+use mathlib.Core.Path.{sym, refl, ap, ◌∙◌}
 use Rattle.rules.specs.Table.{every}
 use Rattle.rules.proofs.Counts.{every_none, every_step}
 use Rattle.index.specs.Index.{differs}

@@ -1,9 +1,7 @@
 -- `index::differs_before` meets its contract. The loop's invariant: `ok` says whether the rows passed have another id.
-use native.Mathlib.Omega.{arith}
 use Prim.Native.Nat.{◌≤◌, ◌-◌}
-use mathlib.Core.Path.{◌≡◌, sym, refl, ap, ◌∙◌}
+use mathlib.Core.Path.{◌≡◌}
 use Rattle.rules.specs.Table.{every}
-use Rattle.rules.proofs.Counts.{every_none, every_step}
 use Rattle.index.specs.Index.{differs}
 use Rattle.index.proofs.differs_before.Given as goal
 

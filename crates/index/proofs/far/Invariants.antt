@@ -1,8 +1,6 @@
 -- `index::far` meets its contract. The loop's invariant: the walk is at a number within n, and what was hit has the id.
 use Prim.Native.Nat.{◌≤◌, ◌-◌}
-use mathlib.Core.Logic.{⊎_elim}
 use Rattle.index.specs.Index.{Hit, STEPS}
-use Rattle.index.proofs.Laws.{hit_none, hit_here, hit_still}
 use Rattle.index.proofs.far.Given as goal
 
 abbrev pub invariant-loop : goal.invariant-loop

@@ -1,9 +1,7 @@
 -- `index::fill` meets its contract. The loop's invariant: the walk of each id passed meets its number.
 use native.Mathlib.Omega.{arith}
-use Prim.Native.Nat.{◌≤◌, ◌<◌, ◌-◌}
 use mathlib.Core.Path.{sym}
-use Rattle.index.specs.Index.{STEPS, Within}
-use Rattle.index.proofs.Walks.{Back, back_none, back_more, within_more, filled_all, filled_compared}
+use Rattle.index.proofs.Walks.{back_none, back_more, within_more, filled_all, filled_compared}
 use borrow.Author.Rules.{rules}
 use Rattle.index.proofs.fill.Goals as goal
 

@@ -2,7 +2,6 @@
 use mathlib.Core.Path.{sym, ◌∙◌}
 use Rattle.rules.proofs.Wallets.{look_says}
 use Rattle.index.proofs.Laws.{number_found, number_none, number_hit}
-use borrow.Author.Rules.{rules}
 use Rattle.index.proofs.look_on.Goals as goal
 
 pub returns-then-a-ne0 : goal.returns-then-a-ne0

@@ -2,7 +2,6 @@
 use native.Mathlib.Omega.{arith}
 use Prim.Native.Nat.{◌%◌}
 use Rattle.index.specs.Index.{ROOTS}
-use borrow.Author.Rules.{rules}
 use Rattle.index.proofs.root.Goals as goal
 
 pub returns : goal.returns

@@ -2,9 +2,8 @@
 use mathlib.Core.Path.{◌≡◌, sym, ◌∙◌}
 use lib.ListN.{get_or}
 use native.Mathlib.Omega.{arith}
-use Prim.Native.Nat.{ℕ, ◌≤◌, ◌<◌}
-use Rattle.index.specs.Index.{PLACES, STEPS}
-use Rattle.index.proofs.Walks.{OnWalk, walk_start, walk_on, walk_end}
+use Prim.Native.Nat.{ℕ, ◌≤◌}
+use Rattle.index.proofs.Walks.{walk_start, walk_on, walk_end}
 use borrow.Author.Rules.{rules}
 use Rattle.index.proofs.seat_for.Goals as goal
 use Rattle.index.proofs.seat_for.Goals.{After-wide-s}

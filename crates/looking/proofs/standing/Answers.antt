@@ -1,7 +1,6 @@
 -- `looking::standing` meets its contract: each arm is told which case it is, and the definition computes there.
 use mathlib.Core.Path.{sym, ap}
 use Rattle.rules.specs.Wallets.{standing_of}
-use borrow.Author.Rules.{rules}
 use Rattle.looking.proofs.standing.Goals as goal
 
 pub returns-in-Missing : goal.returns-in-Missing

@@ -1,6 +1,5 @@
 -- `looking::wallet_row` meets its contract.
 use Rattle.looking.proofs.Parts.{not_asked, counted, searched}
-use borrow.Author.Rules.{rules}
 use Rattle.looking.proofs.wallet_row.Goals as goal
 
 pub returns-then-right-id : goal.returns-then-right-id

@@ -1,6 +1,5 @@
 -- `moves::accept_receipt` meets its contract, each way that it ends.
 use Rattle.moves.proofs.Accepts.{can_end, accepted_plain, accepted_released, accepted_impossible}
-use borrow.Author.Rules.{rules}
 use Rattle.moves.proofs.accept_receipt.Goals as goal
 
 pub returns-then-link-eq0 : goal.returns-then-link-eq0

@@ -1,6 +1,5 @@
 -- `moves::close_escrow` meets its contract: three words set.
 use Rattle.rules.specs.Ledger.{put_escrow}
-use borrow.Author.Rules.{rules}
 use Rattle.moves.proofs.close_escrow.Goals as goal
 
 pub returns : goal.returns

@@ -1,7 +1,6 @@
 -- `moves::close_receipt` meets its contract: three words set.
 use Rattle.rules.specs.Ledger.{put_receipt}
 use Rattle.rules.specs.Settle.{close_receipt}
-use borrow.Author.Rules.{rules}
 use Rattle.moves.proofs.close_receipt.Goals as goal
 
 pub returns : goal.returns

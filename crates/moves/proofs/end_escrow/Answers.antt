@@ -1,6 +1,5 @@
 -- `moves::end_escrow` meets its contract: what is read of the escrow first, then the escrow closed and the credits moved.
 use Rattle.moves.proofs.Ends.{can_move, ended}
-use borrow.Author.Rules.{rules}
 use Rattle.moves.proofs.end_escrow.Goals as goal
 
 pub move_credits-requires : goal.move_credits-requires

@@ -2,7 +2,6 @@
 use mathlib.Core.Path.{sym, ◌∙◌}
 use Rattle.rules.proofs.Wallets.{look_says}
 use Rattle.moves.proofs.Wallets.{ensured_found, ensured_new, next_row}
-use borrow.Author.Rules.{rules}
 use Rattle.moves.proofs.ensure_wallet.Goals as goal
 
 pub returns-in-Missing : goal.returns-in-Missing

@@ -1,5 +1,4 @@
 -- `moves::is_releasable` meets its contract: both words are read, and tested as the definition does.
-use borrow.Author.Rules.{rules}
 use Rattle.moves.proofs.is_releasable.Goals as goal
 
 pub returns : goal.returns

@@ -1,6 +1,5 @@
 -- `moves::move_credits` meets its contract: the one wallet has less, so the other can take it.
 use Rattle.moves.proofs.Wallets.{can_raise}
-use borrow.Author.Rules.{rules}
 use Rattle.moves.proofs.move_credits.Goals as goal
 
 pub raise-requires : goal.raise-requires

@@ -1,6 +1,5 @@
 -- `moves::payee` meets its contract: the search for the recipient, or the sender as it was found.
 use borrow.Author.Tests.{eq-eqb, ne_eqb}
-use borrow.Author.Rules.{rules}
 use Rattle.moves.proofs.payee.Goals as goal
 
 pub returns-then-state-eq-RELEASED : goal.returns-then-state-eq-RELEASED

@@ -1,5 +1,4 @@
 -- `moves::raise` meets its contract.
-use borrow.Author.Rules.{rules}
 use Rattle.moves.proofs.raise.Goals as goal
 
 pub returns : goal.returns

@@ -1,6 +1,5 @@
 -- `operations::accept` meets its contract: what `accept_receipt` says.
 use Rattle.rules.specs.Settle.{accept}
-use borrow.Author.Rules.{rules}
 use Rattle.operations.proofs.accept.Goals as goal
 
 pub returns : goal.returns

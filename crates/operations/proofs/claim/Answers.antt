@@ -1,6 +1,5 @@
 -- `operations::claim` meets its contract: a receipt's row is added.
 use Rattle.operations.proofs.Sets.{claimed}
-use borrow.Author.Rules.{rules}
 use Rattle.operations.proofs.claim.Goals as goal
 
 pub returns : goal.returns

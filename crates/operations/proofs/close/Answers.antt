@@ -2,7 +2,6 @@
 use lib.Dec.{lit<}
 use Rattle.operations.proofs.Sets.{can_set, shut}
 use Rattle.operations.proofs.Live.{live_row, not_missing, not_closed}
-use borrow.Author.Rules.{rules}
 use Rattle.operations.proofs.close.Goals as goal
 
 pub set_wallet-requires : goal.set_wallet-requires

@@ -1,7 +1,6 @@
 -- `operations::close_escrow` meets its contract: what `end_escrow` says.
 use mathlib.Core.Path.{ap}
 use Rattle.rules.specs.Settle.{done}
-use borrow.Author.Rules.{rules}
 use Rattle.operations.proofs.close_escrow.Goals as goal
 
 pub returns : goal.returns

@@ -1,7 +1,6 @@
 -- `operations::dispute` meets its contract: what `close_receipt` says.
 use mathlib.Core.Path.{ap}
 use Rattle.rules.specs.Settle.{done, dispute}
-use borrow.Author.Rules.{rules}
 use Rattle.operations.proofs.dispute.Goals as goal
 
 pub returns : goal.returns

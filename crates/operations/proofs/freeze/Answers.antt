@@ -2,7 +2,6 @@
 use lib.Dec.{lit<}
 use Rattle.operations.proofs.Sets.{can_set, system_frozen, wallet_frozen}
 use Rattle.operations.proofs.Live.{live_row, not_missing, not_closed}
-use borrow.Author.Rules.{rules}
 use Rattle.operations.proofs.freeze.Goals as goal
 
 pub returns-then-s-eq0 : goal.returns-then-s-eq0

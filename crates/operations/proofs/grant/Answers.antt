@@ -1,6 +1,5 @@
 -- `operations::grant` meets its contract.
 use Rattle.operations.proofs.Made.{can_grant, granted_by}
-use borrow.Author.Rules.{rules}
 use Rattle.operations.proofs.grant.Goals as goal
 
 pub raise-requires : goal.raise-requires

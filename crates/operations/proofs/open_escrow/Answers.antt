@@ -1,7 +1,6 @@
 -- `operations::open_escrow` meets its contract: the signer is live.
 use Rattle.operations.proofs.Pays.{can_hold, can_open, opened}
 use Rattle.operations.proofs.Live.{live_row, not_missing, not_closed}
-use borrow.Author.Rules.{rules}
 use Rattle.operations.proofs.open_escrow.Goals as goal
 
 pub move_credits-requires : goal.move_credits-requires

@@ -2,7 +2,6 @@
 use mathlib.Core.List.{[]}
 use Rattle.rules.specs.Ledger.{ledger_of}
 use Rattle.operations.proofs.Replies.{disputed, accepted}
-use borrow.Author.Rules.{rules}
 use Rattle.operations.proofs.reply.Goals as goal
 
 pub returns-then-s-eq0 : goal.returns-then-s-eq0

@@ -1,7 +1,6 @@
 -- `operations::transfer` meets its contract: the signer is live.
 use Rattle.operations.proofs.Pays.{can_transfer, transferred}
 use Rattle.operations.proofs.Live.{live_row, not_missing, not_closed}
-use borrow.Author.Rules.{rules}
 use Rattle.operations.proofs.transfer.Goals as goal
 
 pub move_credits-requires : goal.move_credits-requires

@@ -1,8 +1,6 @@
 -- `payments::grant_refusal` meets its contract: each arm is told what was found of the recipient.
 use mathlib.Core.Path.{sym, ap, ◌∙◌}
-use mathlib.Core.Logic.{⊎_elim}
 use Rattle.payments.proofs.Grant.{by_recipient, grant_by}
-use borrow.Author.Rules.{rules}
 use Rattle.payments.proofs.grant_refusal.Goals as goal
 use Rattle.payments.proofs.grant_refusal.Goals.{in-Missing, in-Live, in-Closed}
 
@@ -16,9 +14,9 @@ returns c =
     c.choose-r40.ensures
     c.choose-r37.ensures
     (elim c.match-recipient.branch [
-      in-Missing w ↦ w.by_recipient-is ∙ w.choose-by_recipient.ensures ∙ sym (ap by w.in-Missing.is)
-    | in-Live w ↦ w.by_recipient-is ∙ w.choose-by_recipient-in-Live.ensures ∙ sym (ap by w.in-Live.is)
-    | in-Closed w ↦ w.by_recipient-is ∙ sym (ap by w.in-Closed.is)
+      | in-Missing w ↦ w.by_recipient-is ∙ w.choose-by_recipient.ensures ∙ sym (ap by w.in-Missing.is)
+      | in-Live w ↦ w.by_recipient-is ∙ w.choose-by_recipient-in-Live.ensures ∙ sym (ap by w.in-Live.is)
+      | in-Closed w ↦ w.by_recipient-is ∙ sym (ap by w.in-Closed.is)
     ])
     c.choose-r15.ensures
     c.choose.ensures

@@ -2,7 +2,6 @@
 use mathlib.Core.Path.{◌∙◌}
 use native.Mathlib.Omega.{arith}
 use Rattle.payments.specs.Sending.{limited}
-use borrow.Author.Rules.{rules}
 use Rattle.payments.proofs.limits_refusal.Goals as goal
 
 pub overflow_add-deadline_exceeds_max : goal.overflow_add-deadline_exceeds_max

@@ -1,6 +1,5 @@
 -- `payments::paying_refusal` meets its contract: each arm is told what was found of the sender.
 use mathlib.Core.Path.{◌≡◌, sym, ap, ◌∙◌}
-use mathlib.Core.Logic.{⊎_elim}
 use Prim.Native.Nat.{◌+◌}
 use lib.ListN.{get_or}
 use Rattle.rules.specs.Limits.{WALLETS}
@@ -35,8 +34,8 @@ returns c =
     c.requires.5
     c.find_wallet-sender.ensures
     (elim c.match-sender.branch [
-      in-Missing w ↦ w.by_sender-is ∙ sym (ap by w.in-Missing.is)
-    | in-Live w ↦ w.by_sender-is ∙ w.choose-by_sender.ensures ∙ rw (w.wallet-frozen.ensures, w.choose-r15.ensures, w.sending_refusal-rest.ensures K) (sym (ap by w.in-Live.is))
-    | in-Closed w ↦ w.by_sender-is ∙ w.choose-by_sender-in-Closed.ensures ∙ sym (ap by w.in-Closed.is)
+      | in-Missing w ↦ w.by_sender-is ∙ sym (ap by w.in-Missing.is)
+      | in-Live w ↦ w.by_sender-is ∙ w.choose-by_sender.ensures ∙ rw (w.wallet-frozen.ensures, w.choose-r15.ensures, w.sending_refusal-rest.ensures K) (sym (ap by w.in-Live.is))
+      | in-Closed w ↦ w.by_sender-is ∙ w.choose-by_sender-in-Closed.ensures ∙ sym (ap by w.in-Closed.is)
     ])
     c.choose.ensures

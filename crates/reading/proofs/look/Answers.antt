@@ -1,7 +1,7 @@
 -- `reading::look` meets its contract: `Sofar` holds of the rows read, and is carried on by each row that passes.
 use mathlib.Core.Path.{◌∙◌}
 use native.Mathlib.Omega.{arith}
-use Rattle.reading.proofs.Sofar.{Sofar, begins, row_long, row_fits, wrong_row, next, sum_fits, late, in_time}
+use Rattle.reading.proofs.Sofar.{begins, row_long, row_fits, wrong_row, next, sum_fits, late, in_time}
 use borrow.Author.Rules.{rules}
 use Rattle.reading.proofs.look.Goals as goal
 

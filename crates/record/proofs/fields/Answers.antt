@@ -1,7 +1,6 @@
 -- `record::fields` meets its contract: the definition's words at the same places.
 use Rattle.rules.specs.Record.{decode}
 use Rattle.record.proofs.Whole.{room}
-use borrow.Author.Rules.{rules}
 use Rattle.record.proofs.fields.Goals as goal
 
 pub word_at-requires : goal.word_at-requires

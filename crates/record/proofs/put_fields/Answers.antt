@@ -1,7 +1,6 @@
 -- `record::put_fields` meets its contract: four bytes, then the words, are all of the record.
 use mathlib.Core.Path.{◌∙◌}
 use Rattle.record.proofs.Whole.{headed, headed_room, stored}
-use borrow.Author.Rules.{rules}
 use Rattle.record.proofs.put_fields.Goals as goal
 
 pub put_words-requires : goal.put_words-requires

@@ -1,6 +1,5 @@
 -- `record::read_by` meets its contract.
 use Rattle.record.proofs.Whole.{read_short, read_there, read_malformed}
-use borrow.Author.Rules.{rules}
 use Rattle.record.proofs.read_by.Goals as goal
 
 pub returns-then-bytes-ne-RECORD_BYTES : goal.returns-then-bytes-ne-RECORD_BYTES

@@ -1,6 +1,5 @@
 -- `record::write_record` meets its contract.
 use Rattle.record.proofs.Whole.{write_short, write_there, write_malformed}
-use borrow.Author.Rules.{rules}
 use Rattle.record.proofs.write_record.Goals as goal
 
 pub returns-then-out-ne-RECORD_BYTES : goal.returns-then-out-ne-RECORD_BYTES

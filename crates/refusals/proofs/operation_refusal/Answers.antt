@@ -2,12 +2,11 @@
 use mathlib.Core.List.{[]}
 use Prim.Native.Nat.{◌≤◌}
 use native.Mathlib.Omega.{arith}
-use Rattle.rules.specs.Limits.{GRANT, TRANSFER, RELEASE}
+use Rattle.rules.specs.Limits.{TRANSFER, RELEASE}
 use Rattle.rules.specs.Ledger.{ledger, ledger_of}
 use Rattle.rules.proofs.Calls.{by_op}
 use Rattle.refusals.proofs.Given.{header_there, wallets_few, escrows_few, receipts_few, wallets_fit, escrows_fit, entries, op_low, op_high, op_not_8, now_time, issued_time}
-use Rattle.refusals.proofs.Order.{either, above}
-use borrow.Author.Rules.{rules}
+use Rattle.refusals.proofs.Order.{either}
 use Rattle.refusals.proofs.operation_refusal.Goals as goal
 
 pub grant_refusal-requires : goal.grant_refusal-requires

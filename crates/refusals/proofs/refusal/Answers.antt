@@ -3,7 +3,6 @@ use Rattle.refusals.proofs.Given.{header_there, journal_fit, op_low, op_high, no
 use Rattle.refusals.proofs.Order.{by_envelope, by_operation}
 use mathlib.Core.List.{[]}
 use Rattle.rules.specs.Ledger.{ledger_of}
-use borrow.Author.Rules.{rules}
 use Rattle.refusals.proofs.refusal.Goals as goal
 
 pub envelope_refusal-number-requires : goal.envelope_refusal-number-requires

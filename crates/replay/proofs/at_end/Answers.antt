@@ -1,6 +1,5 @@
 -- `replay::at_end` meets its contract.
 use Rattle.replay.proofs.Entries.{end_cut, end_agrees}
-use borrow.Author.Rules.{rules}
 use Rattle.replay.proofs.at_end.Goals as goal
 
 pub returns-then-recording-ne0 : goal.returns-then-recording-ne0

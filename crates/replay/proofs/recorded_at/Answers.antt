@@ -5,7 +5,6 @@ use native.Mathlib.Omega.{arith}
 use lib.ListN.{get_or}
 use Rattle.rules.specs.Limits.{ANSWER_AT}
 use Rattle.rules.specs.Replay.{answer}
-use borrow.Author.Rules.{rules}
 use Rattle.replay.proofs.recorded_at.Goals as goal
 
 pub overflow_cast-number : goal.overflow_cast-number

@@ -1,11 +1,9 @@
 -- `replay::replay_on` meets its contract. The invariant: k entries agree, what is left to replay gives the whole, and the tables are ready for the
 -- next entry, so that it may be submitted without a test.
-use mathlib.Core.Path.{refl}
 use Prim.Native.Nat.{◌-◌}
 use Rattle.rules.specs.Ledger.{ledger_of}
 use Rattle.rules.specs.Promises.{SameLengths}
-use Rattle.rules.proofs.Bools.{not_true_false, not_false_true}
-use Rattle.replay.proofs.Entries.{Replaying, replaying_none, one_more, disagrees, all_done}
+use Rattle.replay.proofs.Entries.{Replaying}
 use Rattle.replay.proofs.replay_on.Given as goal
 
 abbrev pub invariant-loop-k : goal.invariant-loop-k

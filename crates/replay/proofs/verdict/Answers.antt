@@ -1,7 +1,6 @@
 -- `replay::verdict` meets its contract: each arm is told which case it is, and the definition computes there.
 use mathlib.Core.Path.{sym, ap}
 use Rattle.rules.specs.Replay.{verdict_of}
-use borrow.Author.Rules.{rules}
 use Rattle.replay.proofs.verdict.Goals as goal
 
 pub returns-in-WrongLength : goal.returns-in-WrongLength

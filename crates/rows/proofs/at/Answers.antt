@@ -1,7 +1,6 @@
 -- `rows::at` meets its contract.
 use mathlib.Core.Path.{sym}
 use lib.ListN.{get_or-eq_default}
-use borrow.Author.Rules.{rules}
 use Rattle.rows.proofs.at.Goals as goal
 
 pub returns-else-i-t : goal.returns-else-i-t

@@ -1,6 +1,5 @@
 -- `rows::count_right` meets its contract.
 use Rattle.rows.proofs.Part.{count_by}
-use borrow.Author.Rules.{rules}
 use Rattle.rows.proofs.count_right.Goals as goal
 
 pub returns : goal.returns

@@ -1,9 +1,7 @@
 -- `rows::find_row` meets its contract: no row before i has the id.
-use Prim.Native.Nat.{◌-◌, ◌≤◌}
 use native.Mathlib.Omega.{arith}
 use Rattle.rules.proofs.Rows.{in_table}
-use Rattle.rows.proofs.Laws.{Passed, pass_none, pass, found, none}
-use borrow.Author.Rules.{rules}
+use Rattle.rows.proofs.Laws.{pass_none, pass, found, none}
 use Rattle.rows.proofs.find_row.Goals as goal
 
 pub loop-i-init : goal.loop-i-init

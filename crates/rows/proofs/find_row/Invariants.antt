@@ -1,8 +1,6 @@
 -- `rows::find_row` meets its contract: no row before i has the id.
 use Prim.Native.Nat.{◌-◌, ◌≤◌}
-use native.Mathlib.Omega.{arith}
-use Rattle.rules.proofs.Rows.{in_table}
-use Rattle.rows.proofs.Laws.{Passed, pass_none, pass, found, none}
+use Rattle.rows.proofs.Laws.{Passed}
 use Rattle.rows.proofs.find_row.Given as goal
 
 abbrev pub invariant-loop-i : goal.invariant-loop-i

@@ -1,7 +1,6 @@
 -- `rows::get` meets its contract.
 use native.Mathlib.Omega.{arith}
 use Rattle.rows.proofs.Laws.{start}
-use borrow.Author.Rules.{rules}
 use Rattle.rows.proofs.get.Goals as goal
 
 pub overflow_mul-row : goal.overflow_mul-row

@@ -1,11 +1,9 @@
 -- `rows::put_row` meets its contract: what is left of vs, written from word k on, makes the whole row.
-use mathlib.Core.Path.{◌≡◌, refl, sym, ◌∙◌}
-use Prim.Native.Nat.{◌-◌, ◌≤◌, ◌<◌}
+use mathlib.Core.Path.{refl, sym, ◌∙◌}
+use Prim.Native.Nat.{◌≤◌, ◌<◌}
 use lib.ListN.{length}
 use native.Mathlib.Omega.{arith}
-use Rattle.rules.specs.Table.{put_row}
-use Rattle.rows.proofs.Laws.{row_from, row_all, row_next, row_done}
-use borrow.Author.Rules.{rules}
+use Rattle.rows.proofs.Laws.{row_all, row_next, row_done}
 use Rattle.rows.proofs.put_row.Goals as goal
 
 pub loop-k-init : goal.loop-k-init

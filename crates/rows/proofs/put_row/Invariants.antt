@@ -1,10 +1,9 @@
 -- `rows::put_row` meets its contract: what is left of vs, written from word k on, makes the whole row.
-use mathlib.Core.Path.{◌≡◌, refl, sym, ◌∙◌}
-use Prim.Native.Nat.{◌-◌, ◌≤◌, ◌<◌}
+use mathlib.Core.Path.{◌≡◌}
+use Prim.Native.Nat.{◌-◌, ◌≤◌}
 use lib.ListN.{length}
-use native.Mathlib.Omega.{arith}
 use Rattle.rules.specs.Table.{put_row}
-use Rattle.rows.proofs.Laws.{row_from, row_all, row_next, row_done}
+use Rattle.rows.proofs.Laws.{row_from}
 use Rattle.rows.proofs.put_row.Given as goal
 
 abbrev pub invariant-loop-k : goal.invariant-loop-k

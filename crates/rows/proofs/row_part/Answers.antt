@@ -4,7 +4,6 @@ use Prim.Native.Nat.{◌+◌, ◌<◌}
 use native.Mathlib.Omega.{arith}
 use lib.ListN.{length}
 use Rattle.rows.proofs.Part.{part_whole, part_end}
-use borrow.Author.Rules.{rules}
 use Rattle.rows.proofs.row_part.Goals as goal
 
 pub returns-then-end-t : goal.returns-then-end-t

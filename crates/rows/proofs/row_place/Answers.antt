@@ -8,7 +8,6 @@ use Rattle.rules.specs.Ledger.{written}
 use Rattle.rules.specs.Lookup.{count_right}
 use Rattle.rules.proofs.Places.{row_from_1, row_whole}
 use Rattle.rows.proofs.Part.{row_by, place_there, place_none}
-use borrow.Author.Rules.{rules}
 use Rattle.rows.proofs.row_place.Goals as goal
 use Rattle.rows.proofs.row_place.Goals.{Then-right-number}
 

@@ -3,7 +3,6 @@ use mathlib.Core.Path.{sym}
 use lib.Seq.{set_out}
 use native.Mathlib.Omega.{arith}
 use Rattle.rows.proofs.Laws.{start}
-use borrow.Author.Rules.{rules}
 use Rattle.rows.proofs.set.Goals as goal
 
 pub overflow_mul-i : goal.overflow_mul-i

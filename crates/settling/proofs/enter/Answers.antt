@@ -1,6 +1,5 @@
 -- `settling::enter` meets its contract.
 use Rattle.settling.proofs.Settled.{entered_none, entered}
-use borrow.Author.Rules.{rules}
 use Rattle.settling.proofs.enter.Goals as goal
 
 pub returns-then-s-eq-SWEEP : goal.returns-then-s-eq-SWEEP

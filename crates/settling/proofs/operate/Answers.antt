@@ -9,7 +9,6 @@ use Rattle.rules.specs.Refusals.{one_of, closing}
 use Rattle.rules.specs.Limits.{GRANT, TRANSFER, OPEN, RELEASE, REFUND, CLAIM, REPLY, SWEEP, FREEZE, CAPS, CLOSE}
 use Rattle.settling.proofs.Facts.{formed, granting, transferring, opening, ending, claiming, answering, swept, freezing, capping, shutting}
 use Rattle.settling.proofs.Settled.{operated}
-use borrow.Author.Rules.{rules}
 use Rattle.settling.proofs.operate.Goals as goal
 
 pub grant-requires : goal.grant-requires

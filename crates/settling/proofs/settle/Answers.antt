@@ -2,7 +2,6 @@
 use Rattle.settling.proofs.Settled.{can_enter, header_kept, settled_by}
 use native.Mathlib.Omega.{arith}
 use Rattle.settling.proofs.Facts.{small}
-use borrow.Author.Rules.{rules}
 use Rattle.settling.proofs.settle.Goals as goal
 
 pub operate-word-requires : goal.operate-word-requires

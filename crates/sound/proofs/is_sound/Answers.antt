@@ -1,7 +1,7 @@
 -- `sound::is_sound` meets its contract: where the header is right, each pass has its rows within the table, and answers for its own tests.
 use native.Mathlib.Omega.{arith}
 use mathlib.Core.Path.{sym, ◌∙◌}
-use Rattle.sound.proofs.Counted.{header_there, escrow_row, rows_within, receipt_rows, entry_rows}
+use Rattle.sound.proofs.Counted.{header_there, escrow_row, rows_within, receipt_rows}
 use Rattle.sound.proofs.Whole.{no_header, no_wallets, no_total, no_parties, no_receipts, the_entries}
 use Rattle.sound.proofs.is_sound.Goals as goal
 
@@ -17,20 +17,12 @@ bounds-header-4 c = omega (arith, header_there _ _ _ _ _ _ c.requires)
 pub bounds-header-5 : goal.bounds-header-5
 bounds-header-5 c = omega (arith, header_there _ _ _ _ _ _ c.requires)
 
-pub wallets_right-requires : goal.wallets_right-requires
-wallets_right-requires c =
-    (rows_within _ _ _ _ _ _ c.requires (sym c.header_right.ensures ∙ c.if-not-header_right.false)).wallets
-
 pub returns-then-not-wallets_right : goal.returns-then-not-wallets_right
 returns-then-not-wallets_right c =
     no_wallets _ _ _ _ _ _ (sym c.header_right.ensures ∙ c.if-not-header_right.false) _ c.wallets_right.ensures c.if-not-wallets_right.true
 
 pub bounds-header-3 : goal.bounds-header-3
 bounds-header-3 c = omega (arith, header_there _ _ _ _ _ _ c.requires)
-
-pub total_right-requires : goal.total_right-requires
-total_right-requires c =
-    (rows_within _ _ _ _ _ _ c.requires (sym c.header_right.ensures ∙ c.if-not-header_right.false)).wallets
 
 pub returns-then-not-total_right : goal.returns-then-not-total_right
 returns-then-not-total_right c =
@@ -60,9 +52,6 @@ returns-then-not-receipts_right c =
 
 pub bounds-header-7 : goal.bounds-header-7
 bounds-header-7 c = omega (arith, header_there _ _ _ _ _ _ c.requires)
-
-pub entries_right-requires : goal.entries_right-requires
-entries_right-requires c = entry_rows _ _ _ _ _ _ c.requires (sym c.header_right.ensures ∙ c.if-not-header_right.false)
 
 pub returns : goal.returns
 returns c =

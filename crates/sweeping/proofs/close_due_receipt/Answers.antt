@@ -1,6 +1,5 @@
 -- `sweeping::close_due_receipt` meets its contract, each way.
 use Rattle.sweeping.proofs.Turns.{due_accepted, due_lapsed}
-use borrow.Author.Rules.{rules}
 use Rattle.sweeping.proofs.close_due_receipt.Goals as goal
 
 pub returns-then-auto-eq1 : goal.returns-then-auto-eq1

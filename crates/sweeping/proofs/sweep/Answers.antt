@@ -2,7 +2,6 @@
 use native.Mathlib.Omega.{arith}
 use Rattle.sweeping.proofs.Receipts.{expiring}
 use Rattle.sweeping.proofs.Escrows.{swept_by}
-use borrow.Author.Rules.{rules}
 use Rattle.sweeping.proofs.sweep.Goals as goal
 
 pub sweep_escrows-expired-requires : goal.sweep_escrows-expired-requires

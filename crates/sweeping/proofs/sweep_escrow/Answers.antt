@@ -1,7 +1,6 @@
 -- `sweeping::sweep_escrow` meets its contract: a due escrow ends and is counted, any other is passed over.
 use native.Mathlib.Omega.{arith}
 use Rattle.sweeping.proofs.Turns.{can_end, escrow_closed, escrow_passed}
-use borrow.Author.Rules.{rules}
 use Rattle.sweeping.proofs.sweep_escrow.Goals as goal
 
 pub end_escrow-requires : goal.end_escrow-requires

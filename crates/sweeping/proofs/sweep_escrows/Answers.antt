@@ -1,8 +1,6 @@
 -- `sweeping::sweep_escrows` meets its contract. The invariant: so far it is the definition's loop.
-use Prim.Native.Nat.{◌-◌}
 use native.Mathlib.Omega.{arith}
-use Rattle.sweeping.proofs.Escrows.{SoFar, start, next, can_expire, ended, full}
-use borrow.Author.Rules.{rules}
+use Rattle.sweeping.proofs.Escrows.{start, next, can_expire, ended, full}
 use Rattle.sweeping.proofs.sweep_escrows.Goals as goal
 
 pub bounds-header-5 : goal.bounds-header-5

@@ -1,7 +1,6 @@
 -- `sweeping::sweep_escrows` meets its contract. The invariant: so far it is the definition's loop.
 use Prim.Native.Nat.{◌-◌}
-use native.Mathlib.Omega.{arith}
-use Rattle.sweeping.proofs.Escrows.{SoFar, start, next, can_expire, ended, full}
+use Rattle.sweeping.proofs.Escrows.{SoFar}
 use Rattle.sweeping.proofs.sweep_escrows.Given as goal
 
 abbrev pub invariant-loop-number : goal.invariant-loop-number

@@ -1,7 +1,6 @@
 -- `sweeping::sweep_receipt` meets its contract: a due receipt is closed and counted, any other is passed over.
 use native.Mathlib.Omega.{arith}
 use Rattle.sweeping.proofs.Turns.{receipt_closed, receipt_passed}
-use borrow.Author.Rules.{rules}
 use Rattle.sweeping.proofs.sweep_receipt.Goals as goal
 
 pub returns-then-is_due : goal.returns-then-is_due

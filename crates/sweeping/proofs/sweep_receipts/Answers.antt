@@ -1,8 +1,6 @@
 -- `sweeping::sweep_receipts` meets its contract. The invariant: so far it is the definition's loop.
-use Prim.Native.Nat.{◌-◌}
 use native.Mathlib.Omega.{arith}
-use Rattle.sweeping.proofs.Receipts.{SoFar, start, next, can_accept, ended, full}
-use borrow.Author.Rules.{rules}
+use Rattle.sweeping.proofs.Receipts.{start, next, can_accept, ended, full}
 use Rattle.sweeping.proofs.sweep_receipts.Goals as goal
 
 pub loop-number-init : goal.loop-number-init

@@ -1,7 +1,6 @@
 -- `sweeping::sweep_receipts` meets its contract. The invariant: so far it is the definition's loop.
 use Prim.Native.Nat.{◌-◌}
-use native.Mathlib.Omega.{arith}
-use Rattle.sweeping.proofs.Receipts.{SoFar, start, next, can_accept, ended, full}
+use Rattle.sweeping.proofs.Receipts.{SoFar}
 use Rattle.sweeping.proofs.sweep_receipts.Given as goal
 
 abbrev pub invariant-loop-number : goal.invariant-loop-number

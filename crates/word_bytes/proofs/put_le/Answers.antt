@@ -1,10 +1,8 @@
 -- `word_bytes::put_le` meets its contract: what is left to store makes the whole.
-use mathlib.Core.Path.{◌≡◌, refl, sym, ◌∙◌}
-use Prim.Native.Nat.{◌+◌}
+use mathlib.Core.Path.{refl, sym, ◌∙◌}
 use native.Mathlib.Omega.{arith}
-use lib.ListN.{length, length-set}
-use Rattle.word_bytes.proofs.Stores.{le_put, le_all, le_next, le_done}
-use borrow.Author.Rules.{rules}
+use lib.ListN.{length-set}
+use Rattle.word_bytes.proofs.Stores.{le_all, le_next, le_done}
 use Rattle.word_bytes.proofs.put_le.Goals as goal
 
 pub loop-left-init : goal.loop-left-init

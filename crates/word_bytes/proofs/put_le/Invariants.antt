@@ -1,9 +1,8 @@
 -- `word_bytes::put_le` meets its contract: what is left to store makes the whole.
-use mathlib.Core.Path.{◌≡◌, refl, sym, ◌∙◌}
+use mathlib.Core.Path.{◌≡◌}
 use Prim.Native.Nat.{◌+◌}
-use native.Mathlib.Omega.{arith}
-use lib.ListN.{length, length-set}
-use Rattle.word_bytes.proofs.Stores.{le_put, le_all, le_next, le_done}
+use lib.ListN.{length}
+use Rattle.word_bytes.proofs.Stores.{le_put}
 use Rattle.word_bytes.proofs.put_le.Given as goal
 
 abbrev pub invariant-loop-left : goal.invariant-loop-left

@@ -1,10 +1,9 @@
 -- `word_bytes::put_words` meets its contract: what is left to store makes the whole.
-use mathlib.Core.Path.{◌≡◌, refl, sym, ◌∙◌}
-use Prim.Native.Nat.{◌+◌, ◌-◌, ◌*◌, ◌≤◌, ◌<◌}
+use mathlib.Core.Path.{refl, sym, ◌∙◌}
+use Prim.Native.Nat.{◌≤◌, ◌<◌}
 use native.Mathlib.Omega.{arith}
 use lib.ListN.{length}
-use Rattle.word_bytes.proofs.Stores.{words_put, words_all, words_next, words_done}
-use borrow.Author.Rules.{rules}
+use Rattle.word_bytes.proofs.Stores.{words_all, words_next, words_done}
 use Rattle.word_bytes.proofs.put_words.Goals as goal
 
 pub loop-i-init : goal.loop-i-init

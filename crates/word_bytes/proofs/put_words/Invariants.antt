@@ -1,9 +1,8 @@
 -- `word_bytes::put_words` meets its contract: what is left to store makes the whole.
-use mathlib.Core.Path.{◌≡◌, refl, sym, ◌∙◌}
-use Prim.Native.Nat.{◌+◌, ◌-◌, ◌*◌, ◌≤◌, ◌<◌}
-use native.Mathlib.Omega.{arith}
+use mathlib.Core.Path.{◌≡◌}
+use Prim.Native.Nat.{◌+◌, ◌-◌, ◌*◌, ◌≤◌}
 use lib.ListN.{length}
-use Rattle.word_bytes.proofs.Stores.{words_put, words_all, words_next, words_done}
+use Rattle.word_bytes.proofs.Stores.{words_put}
 use Rattle.word_bytes.proofs.put_words.Given as goal
 
 abbrev pub invariant-loop-i : goal.invariant-loop-i

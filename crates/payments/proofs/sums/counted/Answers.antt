@@ -1,8 +1,6 @@
 -- `sums::counted` meets its contract: so far the sum is that of the rows before i.
-use Prim.Native.Nat.{◌-◌, ◌≤◌}
-use mathlib.Core.Path.{◌≡◌, sym}
+use mathlib.Core.Path.{sym}
 use native.Mathlib.Omega.{arith}
-use Rattle.rules.specs.Refusals.{counted_of}
 use Rattle.payments.proofs.Whole.{counted_none, counted_next, counted_fits, counted_all}
 use borrow.Author.Rules.{rules}
 use Rattle.payments.proofs.sums.counted.Goals as goal

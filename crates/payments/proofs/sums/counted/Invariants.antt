@@ -1,9 +1,7 @@
 -- `sums::counted` meets its contract: so far the sum is that of the rows before i.
 use Prim.Native.Nat.{◌-◌, ◌≤◌}
-use mathlib.Core.Path.{◌≡◌, sym}
-use native.Mathlib.Omega.{arith}
+use mathlib.Core.Path.{◌≡◌}
 use Rattle.rules.specs.Refusals.{counted_of}
-use Rattle.payments.proofs.Whole.{counted_none, counted_next, counted_fits, counted_all}
 use Rattle.payments.proofs.sums.counted.Given as goal
 
 abbrev pub invariant-loop-i : goal.invariant-loop-i

@@ -1,6 +1,5 @@
 -- `sums::exceeds` meets its contract.
 use Rattle.payments.proofs.Whole.{exceeds_over, exceeds_under}
-use borrow.Author.Rules.{rules}
 use Rattle.payments.proofs.sums.exceeds.Goals as goal
 
 pub returns-then-cap-a : goal.returns-then-cap-a

@@ -1,6 +1,5 @@
 -- `record::form::well_formed` meets its contract.
 use Rattle.record.proofs.Uses.{formed}
-use borrow.Author.Rules.{rules}
 use Rattle.record.proofs.form.well_formed.Goals as goal
 
 pub returns : goal.returns

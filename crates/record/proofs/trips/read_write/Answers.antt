@@ -1,6 +1,5 @@
 -- `record::trips::read_write` meets its contract: that bytes are below 256 is what the slice's type says of them.
 use Rattle.record.proofs.Back.{trip_of_bytes}
-use borrow.Author.Rules.{rules}
 use Rattle.record.proofs.trips.read_write.Goals as goal
 
 pub returns : goal.returns

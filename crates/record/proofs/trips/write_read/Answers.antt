@@ -1,6 +1,5 @@
 -- `record::trips::write_read` meets its contract: that the fields fit is what the struct's type says of them.
 use Rattle.record.proofs.Back.{trip_of_fields}
-use borrow.Author.Rules.{rules}
 use Rattle.record.proofs.trips.write_read.Goals as goal
 
 pub returns : goal.returns

@@ -1,7 +1,6 @@
 -- `admin::freeze_refusal` meets its contract: each arm is told what was found of the target.
 use mathlib.Core.Path.{sym, ap, ◌∙◌}
 use Rattle.refusals.proofs.Others.{by_target, freeze_by}
-use borrow.Author.Rules.{rules}
 use Rattle.refusals.proofs.admin.freeze_refusal.Goals as goal
 
 pub returns-in-Missing : goal.returns-in-Missing

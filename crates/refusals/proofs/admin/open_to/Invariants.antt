@@ -1,10 +1,7 @@
 -- `admin::open_to` meets its contract: after i rows, one is found just if one of them is open and to the id.
 use mathlib.Core.Path.{◌≡◌}
 use Prim.Native.Nat.{◌-◌, ◌≤◌}
-use native.Mathlib.Omega.{arith}
 use Rattle.rules.specs.Wallets.{open_to}
-use Rattle.rules.proofs.Rows.{row_end}
-use Rattle.refusals.proofs.OpenTo.{open_none, open_next, open_all}
 use Rattle.refusals.proofs.admin.open_to.Given as goal
 
 abbrev pub invariant-loop-i : goal.invariant-loop-i

@@ -1,6 +1,5 @@
 -- `admin::sweep_refusal` meets its contract.
 use Rattle.refusals.proofs.Others.{sweep_by}
-use borrow.Author.Rules.{rules}
 use Rattle.refusals.proofs.admin.sweep_refusal.Goals as goal
 
 pub returns : goal.returns

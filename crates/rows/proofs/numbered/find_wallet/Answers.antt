@@ -1,7 +1,6 @@
 -- `rows::numbered::find_wallet` meets its contract: the row is within the table, so its frozen word is there, and one more fits.
 use native.Mathlib.Omega.{arith}
 use Rattle.rows.proofs.Found.{found_missing, found_closed, found_live}
-use borrow.Author.Rules.{rules}
 use Rattle.rows.proofs.numbered.find_wallet.Goals as goal
 
 pub returns-then-n-row : goal.returns-then-n-row

@@ -1,6 +1,5 @@
 -- `escrows::held_in` meets its contract, by the test of the state.
 use borrow.Author.Tests.{eq-eqb, ne_eqb}
-use borrow.Author.Rules.{rules}
 use Rattle.sound.proofs.escrows.held_in.Goals as goal
 
 pub returns-then-e-k-eq-IS_OPEN : goal.returns-then-e-k-eq-IS_OPEN

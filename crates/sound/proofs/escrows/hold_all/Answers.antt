@@ -1,33 +1,21 @@
 -- `escrows::hold_all` meets its contract. The loop's invariant: the escrows passed are right, and the sums are those over them.
-use Prim.Native.Nat.{◌+◌, ◌-◌, ◌*◌, ◌≤◌}
+use Prim.Native.Nat.{◌≤◌}
 use native.Mathlib.Omega.{arith}
-use lib.ListN.{length}
 use mathlib.Core.Path.{◌≡◌}
 use mathlib.Core.Bool.{true, false≢true}
-use borrow.Author.Tests.{not-true, not-false}
-use Rattle.rules.specs.Limits.{ESCROW_LEN, MAX_WALLETS, FROM, TO}
-use Rattle.rules.specs.Table.{word, all, every}
+use Rattle.rules.specs.Limits.{MAX_WALLETS, FROM, TO}
+use Rattle.rules.specs.Table.{word, all}
 use Rattle.rules.specs.Sound.{escrow_tests}
-use Rattle.rules.proofs.Counts.{every_none, every_on, every_fails, every_passed}
-use Rattle.rules.proofs.Rows.{row_end}
+use Rattle.rules.proofs.Counts.{every_none, every_on, every_fails}
 use Rattle.index.proofs.Laws.{indexed_apart}
-use Rattle.sound.specs.Parts.{parties, Held}
-use Rattle.sound.proofs.Holds.{Sent, sent, not_sent, sent_row, row_wrong, row_right, sums_fit, held_end, held_more}
+use Rattle.sound.specs.Parts.{parties}
+use Rattle.sound.proofs.Holds.{Sent, sent, not_sent, sent_row, row_wrong, row_right, sums_fit, held_more}
 use borrow.Author.Rules.{rules}
 use Rattle.sound.proofs.escrows.hold_all.Goals as goal
-use Rattle.sound.proofs.escrows.hold_all.Goals.{Else-from-eq0, In-loop-k}
+use Rattle.sound.proofs.escrows.hold_all.Goals.{Else-from-eq0}
 
 pub loop-k-init : goal.loop-k-init
 loop-k-init c = (search rules, every_none _, c.requires.2)
-
--- the row of a turn is in its table, and has all the named words
-row_here : (c : In-loop-k)
-    → let a = c.args in (c.loop-k.k * a.len + a.len ≤ length a.e.now) × (ESCROW_LEN ≤ a.len)
-row_here c =
-    (row_end c.args.len c.args.m c.loop-k.k c.args.e.now c.requires.0.escrows c.loop-k-test.true, c.requires.0.wide)
-
-pub escrow_right-requires : goal.escrow_right-requires
-escrow_right-requires c = row_here c
 
 pub returns-then-not-escrow_right : goal.returns-then-not-escrow_right
 returns-then-not-escrow_right c =
@@ -35,33 +23,9 @@ returns-then-not-escrow_right c =
     record {
       right =
           every_fails _ c.loop-k.k _ (search rules)
-          (row_wrong a.len a.w.now a.n a.e.now a.m _ _ c.escrow_right.ensures (c.if-not-escrow_right.true));
+          (row_wrong a.len a.w.now a.n a.e.now a.m _ _ c.escrow_right.ensures c.if-not-escrow_right.true);
       held = λ z. absurd (false≢true z);
     }
-
-pub overflow_mul-k : goal.overflow_mul-k
-overflow_mul-k c = omega (arith, (row_here (goal.at.overflow_mul-k c).In-loop-k).0, (row_here (goal.at.overflow_mul-k c).In-loop-k).1)
-
-pub overflow_add-k : goal.overflow_add-k
-overflow_add-k c = omega (arith, (row_here (goal.at.overflow_add-k c).In-loop-k).0, (row_here (goal.at.overflow_add-k c).In-loop-k).1)
-
-pub offset_bounds-e-k : goal.offset_bounds-e-k
-offset_bounds-e-k c = omega (arith, (row_here (goal.at.offset_bounds-e-k c).In-loop-k).0, (row_here (goal.at.offset_bounds-e-k c).In-loop-k).1)
-
-pub bounds-e-k : goal.bounds-e-k
-bounds-e-k c = omega (arith, (row_here (goal.at.bounds-e-k c).In-loop-k).0, (row_here (goal.at.bounds-e-k c).In-loop-k).1)
-
-pub overflow_mul-k-in-loop-k : goal.overflow_mul-k-in-loop-k
-overflow_mul-k-in-loop-k c = omega (arith, (row_here (goal.at.overflow_mul-k-in-loop-k c).In-loop-k).0, (row_here (goal.at.overflow_mul-k-in-loop-k c).In-loop-k).1)
-
-pub overflow_add-k-in-loop-k : goal.overflow_add-k-in-loop-k
-overflow_add-k-in-loop-k c = omega (arith, (row_here (goal.at.overflow_add-k-in-loop-k c).In-loop-k).0, (row_here (goal.at.overflow_add-k-in-loop-k c).In-loop-k).1)
-
-pub offset_bounds-e-k-in-loop-k : goal.offset_bounds-e-k-in-loop-k
-offset_bounds-e-k-in-loop-k c = omega (arith, (row_here (goal.at.offset_bounds-e-k-in-loop-k c).In-loop-k).0, (row_here (goal.at.offset_bounds-e-k-in-loop-k c).In-loop-k).1)
-
-pub bounds-e-k-in-loop-k : goal.bounds-e-k-in-loop-k
-bounds-e-k-in-loop-k c = omega (arith, (row_here (goal.at.bounds-e-k-in-loop-k c).In-loop-k).0, (row_here (goal.at.bounds-e-k-in-loop-k c).In-loop-k).1)
 
 pub returns-then-from-eq0 : goal.returns-then-from-eq0
 returns-then-from-eq0 c =
@@ -82,7 +46,7 @@ is_right : (c : Else-from-eq0)
     all (escrow_tests (parties a.len a.w.now a.n a.e.now a.m) c.loop-k.k) ≡ true
 is_right c =
     let a = c.args in
-    row_right a.len a.w.now a.n a.e.now a.m c.loop-k.k _ _ c.escrow_right.ensures (c.if-not-escrow_right.false) (was_sent c)
+    row_right a.len a.w.now a.n a.e.now a.m c.loop-k.k _ _ c.escrow_right.ensures c.if-not-escrow_right.false (was_sent c)
 
 -- the sender's number is one
 numbered : (c : Else-from-eq0) → c.sender-from.result.0 ≤ MAX_WALLETS
@@ -93,9 +57,6 @@ offset_bounds-sums-from c = omega (arith, numbered c)
 
 pub bounds-sums-from : goal.bounds-sums-from
 bounds-sums-from c = omega (arith, numbered (goal.at.bounds-sums-from c).Else-from-eq0)
-
-pub held_in-requires : goal.held_in-requires
-held_in-requires c = row_here (goal.at.held_in-requires c).In-loop-k
 
 pub overflow_add-sums : goal.overflow_add-sums
 overflow_add-sums c =
@@ -116,11 +77,3 @@ loop-k-preserved c =
       every_on _ _ l.invariant.1 (is_right (goal.at.loop-k-preserved c).Else-from-eq0),
       held_more _ _ _ _ _ _ _ _ _ l.invariant.2 (indexed_apart _ _ _ _ p.1) p.0.few (was_sent (goal.at.loop-k-preserved c).Else-from-eq0) c.held_in.ensures,
     )
-
-pub returns : goal.returns
-returns c =
-    let l = c.loop-k in
-    record {
-      right = every_passed _ _ _ l.invariant.0 c.loop-k-test.false l.invariant.1;
-      held = λ _. held_end _ _ _ _ _ l.k _ l.invariant.0 c.loop-k-test.false l.invariant.2;
-    }

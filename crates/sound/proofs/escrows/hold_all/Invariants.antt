@@ -1,18 +1,10 @@
 -- `escrows::hold_all` meets its contract. The loop's invariant: the escrows passed are right, and the sums are those over them.
-use Prim.Native.Nat.{◌+◌, ◌-◌, ◌*◌, ◌≤◌}
-use native.Mathlib.Omega.{arith}
-use lib.ListN.{length}
+use Prim.Native.Nat.{◌-◌, ◌≤◌}
 use mathlib.Core.Path.{◌≡◌}
-use mathlib.Core.Bool.{true, false≢true}
-use borrow.Author.Tests.{not-true, not-false}
-use Rattle.rules.specs.Limits.{ESCROW_LEN, MAX_WALLETS, FROM, TO}
-use Rattle.rules.specs.Table.{word, all, every}
+use mathlib.Core.Bool.{true}
+use Rattle.rules.specs.Table.{all, every}
 use Rattle.rules.specs.Sound.{escrow_tests}
-use Rattle.rules.proofs.Counts.{every_none, every_on, every_fails, every_passed}
-use Rattle.rules.proofs.Rows.{row_end}
-use Rattle.index.proofs.Laws.{indexed_apart}
 use Rattle.sound.specs.Parts.{parties, Held}
-use Rattle.sound.proofs.Holds.{Sent, sent, not_sent, sent_row, row_wrong, row_right, sums_fit, held_end, held_more}
 use Rattle.sound.proofs.escrows.hold_all.Given as goal
 
 abbrev pub invariant-loop-k : goal.invariant-loop-k

@@ -1,11 +1,6 @@
 -- `escrows::locked_right` meets its contract. The loop's invariant: the wallets passed have their sums locked.
-use Prim.Native.Nat.{◌≤◌, ◌-◌}
-use mathlib.Core.Path.{◌≡◌}
-use mathlib.Core.Bool.{true}
 use borrow.Author.Tests.{eq-eqb, ne_eqb}
-use Rattle.rules.specs.Table.{every}
 use Rattle.rules.proofs.Counts.{every_none, every_on, every_fails, every_passed}
-use Rattle.sound.specs.Parts.{locked_is}
 use borrow.Author.Rules.{rules}
 use Rattle.sound.proofs.escrows.locked_right.Goals as goal
 

@@ -2,9 +2,7 @@
 use Prim.Native.Nat.{◌≤◌, ◌-◌}
 use mathlib.Core.Path.{◌≡◌}
 use mathlib.Core.Bool.{true}
-use borrow.Author.Tests.{eq-eqb, ne_eqb}
 use Rattle.rules.specs.Table.{every}
-use Rattle.rules.proofs.Counts.{every_none, every_on, every_fails, every_passed}
 use Rattle.sound.specs.Parts.{locked_is}
 use Rattle.sound.proofs.escrows.locked_right.Given as goal
 

@@ -1,7 +1,6 @@
 -- `escrows::parties_right` meets its contract: the index is filled from nothing, the sums from zeros, and each part answers for its own tests.
 use Rattle.index.proofs.Walks.{within_empty}
 use Rattle.sound.proofs.Parties.{held_none, same_ids, indexed, wrong_escrow, locked_all}
-use borrow.Author.Rules.{rules}
 use Rattle.sound.proofs.escrows.parties_right.Goals as goal
 
 pub fill-most-requires : goal.fill-most-requires

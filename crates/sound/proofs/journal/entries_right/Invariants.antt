@@ -1,11 +1,9 @@
 -- `journal::entries_right` meets its contract. The loop's invariant: the rows passed are right.
 use Prim.Native.Nat.{◌≤◌, ◌-◌}
-use mathlib.Core.Path.{◌≡◌, sym, ◌∙◌}
+use mathlib.Core.Path.{◌≡◌}
 use mathlib.Core.Bool.{true}
-use borrow.Author.Tests.{not-true, not-false}
 use Rattle.rules.specs.Table.{all, every}
 use Rattle.rules.specs.Sound.{entry_tests}
-use Rattle.rules.proofs.Counts.{every_none, every_on, every_fails, every_passed}
 use Rattle.sound.specs.Parts.{entries_in}
 use Rattle.sound.proofs.journal.entries_right.Given as goal
 

@@ -5,7 +5,6 @@ use lib.ListN.{length}
 use Rattle.rules.specs.Limits.{ESCROW_LEN, RECEIPT_LEN, REQUESTER, PROVIDER}
 use Rattle.rules.specs.Table.{word}
 use Rattle.sound.proofs.Links.{link_past, link_within, row_in}
-use borrow.Author.Rules.{rules}
 use Rattle.sound.proofs.receipts.link_right.Goals as goal
 use Rattle.sound.proofs.receipts.link_right.Goals.{After-row_at-row}
 

@@ -1,11 +1,9 @@
 -- `receipts::receipts_right` meets its contract. The loop's invariant: the rows passed are right.
 use Prim.Native.Nat.{◌≤◌, ◌-◌}
-use mathlib.Core.Path.{◌≡◌, sym, ◌∙◌}
+use mathlib.Core.Path.{◌≡◌}
 use mathlib.Core.Bool.{true}
-use borrow.Author.Tests.{not-true, not-false}
 use Rattle.rules.specs.Table.{all, every}
 use Rattle.rules.specs.Sound.{receipt_tests}
-use Rattle.rules.proofs.Counts.{every_none, every_on, every_fails, every_passed}
 use Rattle.sound.specs.Parts.{receipts_in}
 use Rattle.sound.proofs.receipts.receipts_right.Given as goal
 

@@ -1,8 +1,6 @@
 -- `wallets::total_right` meets its contract. The loop's invariant: what is left and the credits of the rows passed are what was granted.
 use native.Mathlib.Omega.{arith}
-use Prim.Native.Nat.{◌+◌, ◌≤◌, ◌-◌}
 use mathlib.Core.Path.{◌≡◌}
-use Rattle.rules.specs.Table.{sum}
 use Rattle.rules.proofs.Counts.{sum_none, sum_step}
 use Rattle.sound.proofs.Totals.{both, granted_more, credits_more, credits_left}
 use borrow.Author.Rules.{rules}

@@ -1,10 +1,8 @@
 -- `wallets::total_right` meets its contract. The loop's invariant: what is left and the credits of the rows passed are what was granted.
-use native.Mathlib.Omega.{arith}
 use Prim.Native.Nat.{◌+◌, ◌≤◌, ◌-◌}
 use mathlib.Core.Path.{◌≡◌}
 use Rattle.rules.specs.Table.{sum}
-use Rattle.rules.proofs.Counts.{sum_none, sum_step}
-use Rattle.sound.proofs.Totals.{both, granted_more, credits_more, credits_left}
+use Rattle.sound.proofs.Totals.{both}
 use Rattle.sound.proofs.wallets.total_right.Given as goal
 
 abbrev pub invariant-loop-i : goal.invariant-loop-i

@@ -1,12 +1,6 @@
 -- `wallets::wallets_right` meets its contract. The loop's invariant: the rows passed are right.
-use Prim.Native.Nat.{◌≤◌, ◌-◌}
-use mathlib.Core.Path.{◌≡◌, sym, ◌∙◌}
-use mathlib.Core.Bool.{true}
-use borrow.Author.Tests.{not-true, not-false}
-use Rattle.rules.specs.Table.{all, every}
-use Rattle.rules.specs.Sound.{wallet_tests}
+use mathlib.Core.Path.{sym, ◌∙◌}
 use Rattle.rules.proofs.Counts.{every_none, every_on, every_fails, every_passed}
-use Rattle.sound.specs.Parts.{wallets_in}
 use borrow.Author.Rules.{rules}
 use Rattle.sound.proofs.wallets.wallets_right.Goals as goal
 
