@@ -70,20 +70,20 @@ abbrev pub ◌with_receipts◌ : Moments → Loan → Moments
 abbrev pub ◌with_journal◌ : Moments → Loan → Moments
 ◌with_journal◌ = laid set_journal
 
-abbrev seen : (List ℕ → Ledger → Ledger) → Moments → Sight → Moments
-seen set L t = record { entry = set t.entry.now L.entry; exit = set t.exit.now L.exit }
+abbrev sighted : (List ℕ → Ledger → Ledger) → Moments → Sight → Moments
+sighted set L t = record { entry = set t.entry.now L.entry; exit = set t.exit.now L.exit }
 
 abbrev pub ◌seeing_header◌ : Moments → Sight → Moments
-◌seeing_header◌ = seen set_header
+◌seeing_header◌ = sighted set_header
 
 abbrev pub ◌seeing_wallets◌ : Moments → Sight → Moments
-◌seeing_wallets◌ = seen set_wallets
+◌seeing_wallets◌ = sighted set_wallets
 
 abbrev pub ◌seeing_escrows◌ : Moments → Sight → Moments
-◌seeing_escrows◌ = seen set_escrows
+◌seeing_escrows◌ = sighted set_escrows
 
 abbrev pub ◌seeing_receipts◌ : Moments → Sight → Moments
-◌seeing_receipts◌ = seen set_receipts
+◌seeing_receipts◌ = sighted set_receipts
 
 abbrev pub ◌seeing_journal◌ : Moments → Sight → Moments
-◌seeing_journal◌ = seen set_journal
+◌seeing_journal◌ = sighted set_journal

@@ -4,9 +4,9 @@ use mathlib.Core.Bool.{true}
 use mathlib.Core.List.{List}
 use Prim.Native.Nat.{ℕ, ◌*◌, ◌≤◌}
 use lib.ListN.{length}
-use Rattle.rules.specs.Limits.{HEADER_LEN, WALLET_LEN, RECEIPT_LEN}
+use Rattle.rules.specs.Limits.{HEADER_LEN, WALLET_LEN, RECEIPT_LEN, JOURNAL_LEN}
 use Rattle.rules.specs.Table.{all}
-use Rattle.rules.specs.Ledger.{Sized, Ledger, ledger_of, lengths_right, wallet_count, escrow_count, receipt_count}
+use Rattle.rules.specs.Ledger.{Sized, Ledger, ledger_of, lengths_right, wallet_count, escrow_count, receipt_count, entry_count}
 use Rattle.rules.specs.declared.Edition.{Edition}
 use Rattle.rules.specs.Sound.{header_tests}
 use Rattle.rules.specs.Promises.{Within}
@@ -41,3 +41,6 @@ module _ (ed : Edition) (h w e r j : List ℕ) (x : (lengths_right (ledger_of ed
 
     pub receipt_rows : receipt_count L * RECEIPT_LEN ≤ length r
     receipt_rows = rows_fit RECEIPT_LEN _ r within.receipts
+
+    pub entry_rows : entry_count L * JOURNAL_LEN ≤ length j
+    entry_rows = rows_fit JOURNAL_LEN _ j within.journal

@@ -5,7 +5,7 @@ ghost use Rattle.std.specs.Prelude.{◌≡◌, ◌&&◌, ℕ, ◌+◌, ◌-◌, 
 ghost use Rattle.rules.specs.Limits;
 ghost use Rattle.rules.specs.Table.{loop};
 ghost use Rattle.rules.specs.Ledger.{Ledger};
-ghost use Rattle.rules.specs.Moments.{tables, any, ◌of_edition◌, ◌with_wallets◌, ◌with_escrows◌, ◌with_receipts◌, ◌seeing_header◌};
+ghost use Rattle.rules.specs.Moments.{any, ◌of_edition◌, ◌with_wallets◌, ◌with_escrows◌, ◌with_receipts◌, ◌seeing_header◌};
 ghost use Rattle.rules.specs.Settle.{done, close_due_receipt, sweep_receipt, sweep_escrow, swept_receipts, swept};
 ghost use Rattle.rules.specs.Due.{due};
 ghost use Rattle.rows.specs.Numbered.{Names};
