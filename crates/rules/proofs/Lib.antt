@@ -27,6 +27,7 @@ pub mod Operations
 pub mod Cases
 -- the refusals, the replay guard, the sweep, and that sound stays
 pub mod Refused
+pub mod Numbers
 pub mod Calls
 pub mod Places
 pub mod Demand12

@@ -11,6 +11,7 @@ pub mod Settle
 pub mod Submit
 pub mod Lookup
 pub mod Status
+pub mod Numbers
 pub mod Recording
 pub mod Replay
 pub mod Report

@@ -5,6 +5,7 @@
 use Rattle.std.specs.Prelude.{List, ℕ}
 use Rattle.std.specs.Borrow.{Bor, MutBor}
 use denote.Triple.Both.{Both}
+use Rattle.rules.specs.declared.tables.Tables.{Tables}
 use Rattle.rules.specs.Ledger.{Edition, Ledger, ledger_of, set_edition, set_header, set_wallets, set_escrows, set_receipts, set_journal}
 
 infixl 5 ◌of_edition◌ ◌with_header◌ ◌with_wallets◌ ◌with_escrows◌ ◌with_receipts◌ ◌with_journal◌
@@ -87,3 +88,7 @@ abbrev pub ◌seeing_receipts◌ : Moments → Sight → Moments
 
 abbrev pub ◌seeing_journal◌ : Moments → Sight → Moments
 ◌seeing_journal◌ = sighted set_journal
+
+-- all five lent together to be read, as a struct of the code has them
+abbrev pub ledger_in : Tables → Ledger
+ledger_in t = ledger_of t.edition t.header.now t.wallets.now t.escrows.now t.receipts.now t.journal.now

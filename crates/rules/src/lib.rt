@@ -2,11 +2,20 @@
 #![tactic(auto)]
 
 ghost use Rattle.std.specs.Prelude.{◌≡◌};
+ghost use Rattle.rules.specs.Numbers.{answer_to, read_as};
+ghost use Rattle.rules.specs.Replay.{verdict_of};
 ghost use Rattle.rules.specs.Status.{status_of};
+ghost use Rattle.rules.specs.Wallets.{standing_of};
 
-use crate::limits::{ANSWERS, ESCROW_LEN, FIRST_EDITION, HEADER_LEN, LAST_ANSWER};
+use crate::limits::{
+    ALL_AGREE, ANSWERS, BAD_TABLE, CUT_SHORT, DISAGREES, ESCROW_LEN, FIRST_EDITION, HEADER_LEN,
+    LAST_ANSWER, MALFORMED_RECORD, NOT_REPLAYED, WALLET_CLOSED, WALLET_LIVE, WALLET_MISSING,
+};
+use crate::refusal::Refusal;
 
 pub mod limits;
+pub mod refusal;
+pub mod tables;
 
 // The fields of a submission record. `op` and `flags` are the record's own bytes.
 #[repr(C)]
@@ -30,7 +39,7 @@ pub struct Submission {
 }
 
 // The form of a record: which records are well formed, and what operations 7 and 8 do.
-#[derive(Clone, Copy)]
+#[derive(Clone, Copy, PartialEq, Eq, Debug)]
 pub enum Form {
     // As it was before document 02, request 7: 7 is an accept, and 8 a dispute.
     Old,
@@ -46,12 +55,70 @@ pub struct Read {
     pub submission: Submission,
 }
 
-// The answer to a submission.
+// The fields of no record.
+pub const NOTHING: Submission = Submission {
+    op: 0,
+    flags: 0,
+    now: 0,
+    signer: 0,
+    nonce: 0,
+    issued: 0,
+    expires: 0,
+    target: 0,
+    amount: 0,
+    until: 0,
+    link: 0,
+    hash0: 0,
+    hash1: 0,
+    hash2: 0,
+    hash3: 0,
+};
+
+// What bytes are read as, in numbers.
+impl From<Option<Submission>> for Read {
+    ghost from_gives = { λ found read. read ≡ read_as found };
+
+    fn from(record: Option<Submission>) -> Read {
+        match record {
+            Some(submission) => Read {
+                number: 0,
+                submission,
+            },
+            None => Read {
+                number: MALFORMED_RECORD,
+                submission: NOTHING,
+            },
+        }
+    }
+}
+
+// The answer to a submission, in numbers.
 #[repr(C)]
-#[derive(Clone, Copy)]
+#[derive(Clone, Copy, PartialEq, Eq, Debug)]
 pub struct Answer {
     pub number: u64,
     pub word: u64,
+}
+
+// What is decided of a record before anything changes: as what it is read, and whether it is refused.
+#[derive(Clone, Copy)]
+pub struct Decided {
+    pub submission: Submission,
+    pub outcome: Result<(), Refusal>,
+}
+
+impl From<Result<u64, Refusal>> for Answer {
+    ghost from_gives = { λ outcome answer. answer ≡ answer_to outcome };
+
+    fn from(outcome: Result<u64, Refusal>) -> Answer {
+        match outcome {
+            Ok(word) => Answer { number: 0, word },
+            Err(refusal) => Answer {
+                number: refusal.number(),
+                word: 0,
+            },
+        }
+    }
 }
 
 // What a replay of a recording finds.
@@ -76,6 +143,45 @@ pub struct Verdict {
     pub replayed: u64,
     pub recorded: Answer,
     pub answered: Answer,
+}
+
+// An enum does not cross `extern "C"`.
+impl From<Found> for Verdict {
+    ghost from_gives = { λ found verdict. verdict ≡ verdict_of found };
+
+    fn from(found: Found) -> Verdict {
+        let none = Answer { number: 0, word: 0 };
+        match found {
+            Found::WrongLength => Verdict {
+                number: BAD_TABLE,
+                finding: NOT_REPLAYED,
+                replayed: 0,
+                recorded: none,
+                answered: none,
+            },
+            Found::AllAgree(n) => Verdict {
+                number: 0,
+                finding: ALL_AGREE,
+                replayed: n,
+                recorded: none,
+                answered: none,
+            },
+            Found::CutShort(n) => Verdict {
+                number: 0,
+                finding: CUT_SHORT,
+                replayed: n,
+                recorded: none,
+                answered: none,
+            },
+            Found::Disagrees(n, recorded, answered) => Verdict {
+                number: 0,
+                finding: DISAGREES,
+                replayed: n,
+                recorded,
+                answered,
+            },
+        }
+    }
 }
 
 // What adding a recording to the month's report came to: the answer, and how many entries were read.
@@ -131,6 +237,27 @@ pub enum WalletState {
 pub struct Standing {
     pub state: u64,
     pub number: u64,
+}
+
+impl From<WalletState> for Standing {
+    ghost from_gives = { λ state standing. standing ≡ standing_of state };
+
+    fn from(state: WalletState) -> Standing {
+        match state {
+            WalletState::Missing => Standing {
+                state: WALLET_MISSING,
+                number: 0,
+            },
+            WalletState::Live(wallet) => Standing {
+                state: WALLET_LIVE,
+                number: wallet.0,
+            },
+            WalletState::Closed(wallet) => Standing {
+                state: WALLET_CLOSED,
+                number: wallet.0,
+            },
+        }
+    }
 }
 
 const STATUSES: [u64; ANSWERS] = [

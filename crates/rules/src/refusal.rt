@@ -1,0 +1,82 @@
+ghost use Rattle.std.specs.Prelude.{◌≡◌};
+ghost use Rattle.rules.specs.Numbers.{number_of, numbered, first_of};
+
+// Why a submission is refused, by the paper's names; each is its number. The order of check is that of the table in specs/Refusals.antt.
+#[derive(Clone, Copy, PartialEq, Eq, Debug)]
+pub enum Refusal {
+    BadTable = 1,
+    LedgerDamaged = 2,
+    MalformedRecord = 3,
+    ClockBack = 4,
+    SystemFrozen = 5,
+    InvalidSignature = 6,
+    NotAdmin = 7,
+    EnvelopeNotYetValid = 8,
+    EnvelopeExpired = 9,
+    EnvelopeWindowTooLong = 10,
+    NonceSeen = 11,
+    AmountOutOfRange = 12,
+    SenderNotFound = 13,
+    SenderFrozen = 14,
+    RecipientInvalid = 15,
+    WalletNotFound = 16,
+    InsufficientBalance = 17,
+    PerTxCapExceeded = 18,
+    DailyCapExceeded = 19,
+    EscrowDeadlinePast = 20,
+    EscrowDeadlineExceedsMax = 21,
+    ProviderNotFound = 22,
+    RequesterNotFound = 23,
+    AcceptanceWindowTooShort = 24,
+    AcceptanceWindowTooLong = 25,
+    AcceptanceDeadlinePast = 26,
+    EscrowNotFound = 27,
+    EscrowSignerNotAuthorized = 28,
+    EscrowNotOpen = 29,
+    EscrowDidMismatch = 30,
+    AcceptanceDeadlineExceedsEscrow = 31,
+    ReceiptNotFound = 32,
+    ReceiptSignerNotAuthorized = 33,
+    ReceiptNotPending = 34,
+    DisputeReasonRequired = 35,
+    GrantLimit = 36,
+    WalletTableFull = 37,
+    EscrowTableFull = 38,
+    ReceiptTableFull = 39,
+    JournalTableFull = 40,
+    AcceptanceClosed = 41,
+    WalletNotEmpty = 42,
+    WalletClosed = 43,
+}
+
+impl Refusal {
+    // The paper's number.
+    pub fn number(self) -> u64
+        ensures { result ≡ number_of self }
+    {
+        self as u64
+    }
+}
+
+// The number of an answer that has no word: 0, or the refusal's.
+pub fn number(answer: Result<(), Refusal>) -> u64
+    ensures { result ≡ numbered answer }
+{
+    match answer {
+        Ok(()) => 0,
+        Err(refusal) => refusal.number(),
+    }
+}
+
+// The refusal of the first check that holds, as a table of the paper has them in the order of check.
+#[tactic(auto, unfolding(crate::specs::Numbers::first_of))]
+pub fn first_of<const N: usize>(checks: [(bool, Refusal); N]) -> Result<(), Refusal>
+    ensures { result ≡ first_of checks.entry }
+{
+    for (holds, refusal) in checks {
+        if holds {
+            return Err(refusal);
+        }
+    }
+    Ok(())
+}
