@@ -12,6 +12,7 @@ pub mod Submit
 pub mod Lookup
 pub mod Status
 pub mod Numbers
+pub mod Operations
 pub mod Recording
 pub mod Replay
 pub mod Report

@@ -14,6 +14,7 @@ use crate::limits::{
 use crate::refusal::Refusal;
 
 pub mod limits;
+pub mod operation;
 pub mod refusal;
 pub mod tables;
 
