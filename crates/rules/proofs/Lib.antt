@@ -28,6 +28,7 @@ pub mod Cases
 -- the refusals, the replay guard, the sweep, and that sound stays
 pub mod Refused
 pub mod Numbers
+pub mod Decoded
 pub mod Calls
 pub mod Places
 pub mod Demand12

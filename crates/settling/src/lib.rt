@@ -8,10 +8,8 @@ ghost use Rattle.rules.specs.Moments.{tables, lent, any, ◌of_edition◌, ◌wi
 ghost use Rattle.rules.specs.Settle.{done, operate, enter, settle};
 ghost use Rattle.settling.specs.Needs.{Settles, Operates};
 
-use rules::limits::{
-    CAPS, CLAIM, CLOCK, CLOSE, ENTRIES, FREEZE, GRANT, JOURNAL_LEN, OPEN, REFUND, REFUNDED,
-    RELEASE, RELEASED, REPLY, SWEEP, TRANSFER,
-};
+use rules::limits::{CLOCK, ENTRIES, JOURNAL_LEN, REFUNDED, RELEASED, SWEEP};
+use rules::operation::Operation;
 use rules::{Edition, Submission};
 
 // The operation, by its number. Each is lent the tables that it changes; the journal is lent to none.
@@ -26,21 +24,26 @@ fn operate(
     requires { Operates edition header.old wallets.old escrows.old receipts.old s }
     ensures { (K : Ledger) → let L = any K of_edition edition with_header header with_wallets wallets with_escrows escrows with_receipts receipts in done result L.exit ≡ operate s L.entry }
 {
-    let op = s.op;
-    match op {
-        GRANT => operations::grant(header, wallets, s),
-        TRANSFER => operations::transfer(header, wallets, s),
-        OPEN => operations::open_escrow(edition, header, wallets, escrows, s),
-        RELEASE => operations::close_escrow(edition, header, wallets, escrows, s, RELEASED),
-        REFUND => operations::close_escrow(edition, header, wallets, escrows, s, REFUNDED),
-        CLAIM => operations::claim(header, receipts, s),
-        REPLY => operations::reply(edition, header, wallets, escrows, receipts, s),
-        SWEEP => sweeping::sweep(edition, header, wallets, escrows, receipts, s.now, s.amount),
-        FREEZE => operations::freeze(header, wallets, s),
-        CAPS => operations::caps(header, wallets, s),
-        CLOSE => operations::close(header, wallets, s),
+    match Operation::try_from(s.op) {
+        Ok(Operation::Grant) => operations::grant(header, wallets, s),
+        Ok(Operation::Transfer) => operations::transfer(header, wallets, s),
+        Ok(Operation::Open) => operations::open_escrow(edition, header, wallets, escrows, s),
+        Ok(Operation::Release) => operations::close_escrow(
+            edition, header, wallets, escrows, s, RELEASED,
+        ),
+        Ok(Operation::Refund) => operations::close_escrow(
+            edition, header, wallets, escrows, s, REFUNDED,
+        ),
+        Ok(Operation::Claim) => operations::claim(header, receipts, s),
+        Ok(Operation::Reply) => operations::reply(edition, header, wallets, escrows, receipts, s),
+        Ok(Operation::Sweep) => sweeping::sweep(
+            edition, header, wallets, escrows, receipts, s.now, s.amount,
+        ),
+        Ok(Operation::Freeze) => operations::freeze(header, wallets, s),
+        Ok(Operation::Caps) => operations::caps(header, wallets, s),
+        Ok(Operation::Close) => operations::close(header, wallets, s),
         // no well-formed record has another operation
-        _ => 0,
+        Err(_) => 0,
     }
 }
 
@@ -60,7 +63,7 @@ fn enter(header: &mut [u64], journal: &mut [u64], s: Submission, word: u64)
         &[
             s.signer,
             s.nonce,
-            s.op as u64,
+            u64::from(s.op),
             s.target,
             s.amount,
             s.now,

@@ -1,10 +1,10 @@
 -- `settling::operate` meets its contract: each arm by its own contract, what that needs out of soundness and the refusals.
-use native.Mathlib.Omega.{arith}
-use mathlib.Core.Path.{ap}
+use mathlib.Core.Path.{ap, ◌∙◌}
 use mathlib.Core.List.{[]}
 use Rattle.rules.specs.Ledger.{ledger_of, set_receipts}
+use Rattle.rules.specs.Operations.{code_of}
 use Rattle.rules.specs.Settle.{release, refund, sweep}
-use Rattle.rules.proofs.Calls.{by_op}
+use Rattle.rules.proofs.Decoded.{no_other}
 use Rattle.rules.specs.Refusals.{one_of, closing}
 use Rattle.rules.specs.Limits.{GRANT, TRANSFER, OPEN, RELEASE, REFUND, CLAIM, REPLY, SWEEP, FREEZE, CAPS, CLOSE}
 use Rattle.settling.proofs.Facts.{formed, granting, transferring, opening, ending, claiming, answering, swept, freezing, capping, shutting}
@@ -13,85 +13,83 @@ use Rattle.settling.proofs.operate.Goals as goal
 
 pub grant-requires : goal.grant-requires
 grant-requires c =
-    granting _ _ _ _ _ _ _ c.requires.settles c.in-1.is
+    granting _ _ _ _ _ _ _ c.requires.settles (c.in-Ok-Grant.ensures ∙ ap code_of c.in-Ok-Grant.field-0-is)
 
 pub transfer-requires : goal.transfer-requires
 transfer-requires c =
-    transferring _ _ _ _ _ _ _ c.requires.settles c.in-2.is
+    transferring _ _ _ _ _ _ _ c.requires.settles (c.in-Ok-Transfer.ensures ∙ ap code_of c.in-Ok-Transfer.field-0-is)
 
 pub open_escrow-requires : goal.open_escrow-requires
 open_escrow-requires c =
-    opening _ _ _ _ _ _ _ c.requires.settles c.in-3.is
+    opening _ _ _ _ _ _ _ c.requires.settles (c.in-Ok-Open.ensures ∙ ap code_of c.in-Ok-Open.field-0-is)
 
 pub close_escrow-requires : goal.close_escrow-requires
 close_escrow-requires c =
-    ending _ _ _ _ _ _ _ c.requires.settles (ap (one_of closing) c.in-4.is)
+    ending _ _ _ _ _ _ _ c.requires.settles (ap (one_of closing) (c.in-Ok-Release.ensures ∙ ap code_of c.in-Ok-Release.field-0-is))
 
-pub close_escrow-requires-in-5 : goal.close_escrow-requires-in-5
-close_escrow-requires-in-5 c =
-    ending _ _ _ _ _ _ _ c.requires.settles (ap (one_of closing) c.in-5.is)
+pub close_escrow-requires-in-Ok-Refund : goal.close_escrow-requires-in-Ok-Refund
+close_escrow-requires-in-Ok-Refund c =
+    ending _ _ _ _ _ _ _ c.requires.settles (ap (one_of closing) (c.in-Ok-Refund.ensures ∙ ap code_of c.in-Ok-Refund.field-0-is))
 
 pub claim-requires : goal.claim-requires
 claim-requires c = claiming _ _ _ _ _ _ _ c.requires.settles
 
 pub reply-requires : goal.reply-requires
 reply-requires c =
-    answering _ _ _ _ _ _ _ c.requires.settles c.in-7.is
+    answering _ _ _ _ _ _ _ c.requires.settles (c.in-Ok-Reply.ensures ∙ ap code_of c.in-Ok-Reply.field-0-is)
 
 pub sweep-requires : goal.sweep-requires
 sweep-requires c = swept _ _ _ _ _ _ _ c.requires.settles
 
 pub freeze-requires : goal.freeze-requires
 freeze-requires c =
-    freezing _ _ _ _ _ _ _ c.requires.settles c.in-10.is
+    freezing _ _ _ _ _ _ _ c.requires.settles (c.in-Ok-Freeze.ensures ∙ ap code_of c.in-Ok-Freeze.field-0-is)
 
 pub caps-requires : goal.caps-requires
 caps-requires c =
-    capping _ _ _ _ _ _ _ c.requires.settles c.in-11.is
+    capping _ _ _ _ _ _ _ c.requires.settles (c.in-Ok-Caps.ensures ∙ ap code_of c.in-Ok-Caps.field-0-is)
 
 pub close-requires : goal.close-requires
 close-requires c =
-    shutting _ _ _ _ _ _ _ c.requires.settles c.in-12.is
+    shutting _ _ _ _ _ _ _ c.requires.settles (c.in-Ok-Close.ensures ∙ ap code_of c.in-Ok-Close.field-0-is)
 
-pub returns-in-1 : goal.returns-in-1
-returns-in-1 c = λ K. operated GRANT _ _ _ c.in-1.is (c.grant.ensures (ledger_of _ [] [] _ _ _))
+pub returns-in-Ok-Grant : goal.returns-in-Ok-Grant
+returns-in-Ok-Grant c = λ K. operated GRANT _ _ _ (c.in-Ok-Grant.ensures ∙ ap code_of c.in-Ok-Grant.field-0-is) (c.grant.ensures (ledger_of _ [] [] _ _ _))
 
-pub returns-in-2 : goal.returns-in-2
-returns-in-2 c = λ K. operated TRANSFER _ _ _ c.in-2.is (c.transfer.ensures (ledger_of _ [] [] _ _ _))
+pub returns-in-Ok-Transfer : goal.returns-in-Ok-Transfer
+returns-in-Ok-Transfer c = λ K. operated TRANSFER _ _ _ (c.in-Ok-Transfer.ensures ∙ ap code_of c.in-Ok-Transfer.field-0-is) (c.transfer.ensures (ledger_of _ [] [] _ _ _))
 
-pub returns-in-3 : goal.returns-in-3
-returns-in-3 c = λ K. operated OPEN _ _ _ c.in-3.is (c.open_escrow.ensures (set_receipts _ K))
+pub returns-in-Ok-Open : goal.returns-in-Ok-Open
+returns-in-Ok-Open c = λ K. operated OPEN _ _ _ (c.in-Ok-Open.ensures ∙ ap code_of c.in-Ok-Open.field-0-is) (c.open_escrow.ensures (set_receipts _ K))
 
-pub returns-in-4 : goal.returns-in-4
+pub returns-in-Ok-Release : goal.returns-in-Ok-Release
 unfolding release
-returns-in-4 c = λ K. operated RELEASE _ _ _ c.in-4.is (c.close_escrow.ensures (set_receipts _ K))
+returns-in-Ok-Release c = λ K. operated RELEASE _ _ _ (c.in-Ok-Release.ensures ∙ ap code_of c.in-Ok-Release.field-0-is) (c.close_escrow.ensures (set_receipts _ K))
 
-pub returns-in-5 : goal.returns-in-5
+pub returns-in-Ok-Refund : goal.returns-in-Ok-Refund
 unfolding refund
-returns-in-5 c = λ K. operated REFUND _ _ _ c.in-5.is (c.close_escrow-in-5.ensures (set_receipts _ K))
+returns-in-Ok-Refund c = λ K. operated REFUND _ _ _ (c.in-Ok-Refund.ensures ∙ ap code_of c.in-Ok-Refund.field-0-is) (c.close_escrow-in-Ok-Refund.ensures (set_receipts _ K))
 
-pub returns-in-6 : goal.returns-in-6
-returns-in-6 c = λ K. operated CLAIM _ _ _ c.in-6.is (c.claim.ensures (ledger_of _ [] _ _ [] _))
+pub returns-in-Ok-Claim : goal.returns-in-Ok-Claim
+returns-in-Ok-Claim c = λ K. operated CLAIM _ _ _ (c.in-Ok-Claim.ensures ∙ ap code_of c.in-Ok-Claim.field-0-is) (c.claim.ensures (ledger_of _ [] _ _ [] _))
 
-pub returns-in-7 : goal.returns-in-7
-returns-in-7 c = λ K. operated REPLY _ _ _ c.in-7.is (c.reply.ensures K)
+pub returns-in-Ok-Reply : goal.returns-in-Ok-Reply
+returns-in-Ok-Reply c = λ K. operated REPLY _ _ _ (c.in-Ok-Reply.ensures ∙ ap code_of c.in-Ok-Reply.field-0-is) (c.reply.ensures K)
 
-pub returns-in-9 : goal.returns-in-9
+pub returns-in-Ok-Sweep : goal.returns-in-Ok-Sweep
 unfolding sweep
-returns-in-9 c = λ K. operated SWEEP _ _ _ c.in-9.is (c.sweep.ensures K).0
+returns-in-Ok-Sweep c = λ K. operated SWEEP _ _ _ (c.in-Ok-Sweep.ensures ∙ ap code_of c.in-Ok-Sweep.field-0-is) (c.sweep.ensures K).0
 
-pub returns-in-10 : goal.returns-in-10
-returns-in-10 c = λ K. operated FREEZE _ _ _ c.in-10.is (c.freeze.ensures (ledger_of _ [] [] _ _ _))
+pub returns-in-Ok-Freeze : goal.returns-in-Ok-Freeze
+returns-in-Ok-Freeze c = λ K. operated FREEZE _ _ _ (c.in-Ok-Freeze.ensures ∙ ap code_of c.in-Ok-Freeze.field-0-is) (c.freeze.ensures (ledger_of _ [] [] _ _ _))
 
-pub returns-in-11 : goal.returns-in-11
-returns-in-11 c = λ K. operated CAPS _ _ _ c.in-11.is (c.caps.ensures (ledger_of _ [] [] _ _ _))
+pub returns-in-Ok-Caps : goal.returns-in-Ok-Caps
+returns-in-Ok-Caps c = λ K. operated CAPS _ _ _ (c.in-Ok-Caps.ensures ∙ ap code_of c.in-Ok-Caps.field-0-is) (c.caps.ensures (ledger_of _ [] [] _ _ _))
 
-pub returns-in-12 : goal.returns-in-12
-returns-in-12 c = λ K. operated CLOSE _ _ _ c.in-12.is (c.close.ensures (ledger_of _ [] [] _ _ _))
+pub returns-in-Ok-Close : goal.returns-in-Ok-Close
+returns-in-Ok-Close c = λ K. operated CLOSE _ _ _ (c.in-Ok-Close.ensures ∙ ap code_of c.in-Ok-Close.field-0-is) (c.close.ensures (ledger_of _ [] [] _ _ _))
 
-pub returns-in_default : goal.returns-in_default
-returns-in_default c =
+pub returns-in-Err : goal.returns-in-Err
+returns-in-Err c =
     let f = formed _ _ _ _ _ _ _ c.requires.settles in
-    absurd (by_op (λ _. ⊥) _ f.low f.high f.not_8
-    (λ e. omega arith) (λ e. omega arith) (λ e. omega arith) (λ e. omega arith) (λ e. omega arith)
-    (λ e. omega arith) (λ e. omega arith) (λ e. omega arith) (λ e. omega arith) (λ e. omega arith) (λ e. omega arith))
+    absurd (no_other c.in-Err.ensures.1 f.low f.high f.not_8)
