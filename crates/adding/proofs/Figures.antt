@@ -1,11 +1,11 @@
 -- The five figures of a submission that nothing refuses, by its operation: what the code may read, and that what it has read is what the
 -- definition adds.
-use mathlib.Core.Path.{◌≡◌, ap, ◌∙◌}
+use mathlib.Core.Path.{◌≡◌, sym, ap, subst, ◌∙◌}
 use mathlib.Core.List.{List, [], ◌∷◌}
-use mathlib.Core.Bool.{true, false}
+use mathlib.Core.Bool.{true, false, not}
 use Prim.Native.Nat.{ℕ, ◌-◌, ◌<◌, ◌^◌}
 use lib.ListN.{replicate, length-replicate}
-use lib.Dec.{lit<}
+use lib.Dec.{T, lit<}
 use Rattle.rules.specs.Limits.{MAX_ESCROWS, ESCROW_AMOUNT, GRANT, TRANSFER, RELEASE, REFUND, REPLY, ACCEPTS, SWEEP}
 use Rattle.rules.specs.Table.{word}
 use Rattle.rules.specs.Ledger.{Ledger, ledger_of, outcome, escrow_count}
@@ -26,6 +26,10 @@ use Rattle.adding.specs.Turns.{freed, Unmarked}
 -- the marks before the first receipt
 pub unmarked : Unmarked (replicate MAX_ESCROWS 0)
 unmarked = record { places = length-replicate {A = ℕ} MAX_ESCROWS 0; none = zeros MAX_ESCROWS }
+
+-- the operations that a figure counts
+abbrev figured : List ℕ
+figured = GRANT ∷ TRANSFER ∷ RELEASE ∷ REFUND ∷ REPLY ∷ SWEEP ∷ []
 
 module _ (ed : Edition) (h w e r j : List ℕ) (s : Submission) (p : Settles (ledger_of ed h w e r j) s) where
   abbrev L : Ledger
@@ -87,3 +91,9 @@ module _ (ed : Edition) (h w e r j : List ℕ) (s : Submission) (p : Settles (le
   nothing n1 n2 n4 n5 n7 n9 =
       let f = facts.formed ed h w e r j s p in
       adds_other _ s L p.sized.escrow f.low f.high f.not_8 n1 n2 n4 n5 n7 n9
+
+  -- by the number of an operation that is none of these
+  pub no_figure : (op : ℕ) → s.op ≡ op → T (not (one_of figured op)) → 0 ∷ 0 ∷ 0 ∷ 0 ∷ 0 ∷ [] ≡ added
+  no_figure op o t =
+      let off : (k : ℕ) → s.op ≡ k → T (not (one_of figured k)) = λ k q. subst (λ (m : ℕ). T (not (one_of figured m))) (sym o ∙ q) t in
+      nothing (off GRANT) (off TRANSFER) (off RELEASE) (off REFUND) (off REPLY) (off SWEEP)

@@ -19,9 +19,9 @@ ghost use Rattle.adding.specs.Turns.{freed, freed_now, marked_now, closed_rows, 
 use rows::numbered;
 use rules::limits::{
     ACCEPTANCE_DEADLINE, ACCEPTS, AUTO_ACCEPT, ESCROW_AMOUNT, ESCROW_DEADLINE, ESCROW_STATE,
-    ESCROWS, FIGURES, GRANT, IS_OPEN, MAX_ESCROWS, PENDING, RECEIPT_LINK, RECEIPT_STATE, RECEIPTS,
-    REFUND, RELEASE, REPLY, SWEEP, TRANSFER,
+    ESCROWS, FIGURES, IS_OPEN, MAX_ESCROWS, PENDING, RECEIPT_LINK, RECEIPT_STATE, RECEIPTS,
 };
+use rules::operation::Operation;
 use rules::{Edition, EscrowNumber, ReceiptNumber, Submission};
 
 // How many rows are closed, and the credits of the escrows that end with them.
@@ -215,28 +215,33 @@ pub fn adds(
     requires { Adds edition header.now escrows.now receipts.now s }
     ensures { (K : Ledger) → let L = any K of_edition edition seeing_header header seeing_escrows escrows seeing_receipts receipts in Settles L.entry s → result ≡ adds_of L.entry s (outcome 0 (settle s L.entry).word (settle s L.entry).after) }
 {
-    let op = s.op;
-    match op {
-        GRANT => [s.amount, 0, 0, 0, 0],
-        TRANSFER => [0, s.amount, 0, 0, 0],
-        RELEASE => {
+    match Operation::try_from(s.op) {
+        Ok(Operation::Grant) => [s.amount, 0, 0, 0, 0],
+        Ok(Operation::Transfer) => [0, s.amount, 0, 0, 0],
+        Ok(Operation::Release) => {
             let amount = numbered::escrow(edition, escrows, EscrowNumber(s.target), ESCROW_AMOUNT);
             [0, 0, amount, 0, 0]
         },
-        REFUND => {
+        Ok(Operation::Refund) => {
             let amount = numbered::escrow(edition, escrows, EscrowNumber(s.target), ESCROW_AMOUNT);
             [0, 0, 0, amount, 0]
         },
-        REPLY => {
+        Ok(Operation::Reply) => {
             // a dispute
             if s.flags / ACCEPTS % 2 == 0 {
-                return [0, 0, 0, 0, 0];
+                return [0; FIGURES];
             }
             let amount = accepted(edition, escrows, receipts, ReceiptNumber(s.target), s.now);
             [0, 0, amount, 0, 0]
         },
-        SWEEP => sweep_adds(edition, header, escrows, receipts, s.now, s.amount),
-        // an open, a claim, a freeze, new caps and a close
-        _ => [0, 0, 0, 0, 0],
+        Ok(Operation::Sweep) => sweep_adds(edition, header, escrows, receipts, s.now, s.amount),
+        // none of the five figures counts these; with an arm for each, a new operation is not forgotten here
+        Ok(Operation::Open) => [0; FIGURES],
+        Ok(Operation::Claim) => [0; FIGURES],
+        Ok(Operation::Freeze) => [0; FIGURES],
+        Ok(Operation::Caps) => [0; FIGURES],
+        Ok(Operation::Close) => [0; FIGURES],
+        // no well-formed record has another operation
+        Err(_) => [0; FIGURES],
     }
 }
