@@ -76,7 +76,7 @@ read_as None = record { number = 3; submission = nothing }
 abbrev pub decided_as : Decided → Read
 decided_as d = record { number = numbered d.outcome; submission = d.submission }
 
--- the refusal of the first check that holds
-unfoldable pub first_of : List (Bool × Refusal) → Result Unit Refusal
+-- what the first check that holds refuses by
+unfoldable pub first_of : {E : Type 0} → List (Bool × E) → Result Unit E
 first_of [] = Ok tt
 first_of (check ∷ checks) = cond check.0 (Err check.1) (first_of checks)

@@ -68,14 +68,14 @@ pub fn number(answer: Result<(), Refusal>) -> u64
     }
 }
 
-// The refusal of the first check that holds, as a table of the paper has them in the order of check.
+// What the first check that holds refuses by, of a table that has them in the order of check.
 #[tactic(auto, unfolding(crate::specs::Numbers::first_of))]
-pub fn first_of<const N: usize>(checks: [(bool, Refusal); N]) -> Result<(), Refusal>
-    ensures { result ≡ first_of checks.entry }
+pub fn first_of<E: Copy, const N: usize>(checks: [(bool, E); N]) -> Result<(), E>
+    ensures { result ≡ first_of checks }
 {
-    for (holds, refusal) in checks {
+    for (holds, error) in checks {
         if holds {
-            return Err(refusal);
+            return Err(error);
         }
     }
     Ok(())
