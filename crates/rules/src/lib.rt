@@ -30,7 +30,7 @@ pub struct Submission {
 }
 
 // The form of a record: which records are well formed, and what operations 7 and 8 do.
-#[derive(Clone, Copy)]
+#[derive(Clone, Copy, Debug, PartialEq, Eq)]
 pub enum Form {
     // As it was before document 02, request 7: 7 is an accept, and 8 a dispute.
     Old,
