@@ -13,7 +13,7 @@ pub fn word_at(b: &[u8], at: usize) -> u64
     u64::from_le_bytes(b[at..at + 8].try_into().unwrap())
 }
 
-// Stores the n low bytes of x at a place, the lowest first.
+// Stores the n low bytes of x at a place, the lowest first. n may pass the 8 that std's `to_le_bytes` gives, so a loop divides.
 pub fn put_le(b: &mut [u8], at: usize, n: usize, x: u64)
     requires { at + n ≤ length b.old }
     ensures { b.new ≡ sets b.old at (le_bytes n x) }
