@@ -1,34 +1,19 @@
--- The converter over plain values: the two bytes of a record from what was read of it, the two stores of an entry, and the loop, an entry further.
+-- The converter over plain values: the two stores of an entry, from what was read of it, and the loop, an entry further.
 use mathlib.Core.Path.{◌≡◌, refl, sym, ap, ap₂, ◌∙◌}
 use mathlib.Core.List.{List}
-use Prim.Native.Nat.{ℕ, ◌+◌, ◌-◌, ◌*◌, ◌/◌, ◌%◌, ◌≤◌, ◌<◌}
+use Prim.Native.Nat.{ℕ, ◌+◌, ◌-◌, ◌*◌, ◌≤◌, ◌<◌}
 use native.Mathlib.Numerals.{add-one}
 use native.Mathlib.Omega.{arith}
 use lib.ListN.{get_or, set, length, take, drop}
 use lib.Seq.{get_or-take, get_or-drop}
 use lib.Dec.{lit<}
-use borrow.Author.Tests.{eq-eqb, ne_eqb}
-use Rattle.rules.specs.Limits.{RECORD_BYTES, OPERATION_AT, FLAGS_AT, ENTRY_BYTES, REPLY, OLD_ACCEPT, OLD_DISPUTE}
+use Rattle.rules.specs.Limits.{RECORD_BYTES, OPERATION_AT, FLAGS_AT, ENTRY_BYTES}
 use Rattle.rules.specs.Table.{loop}
 use Rattle.rules.specs.Record.{read_by}
 use Rattle.rules.specs.Recording.{whole_entries}
 use Rattle.rules.specs.Convert.{old_operation, new_operation, new_flags, converted_at, converted}
 use Rattle.rules.specs.declared.Form.TheVariants.{Old}
 use Rattle.rules.specs.declared.Read.{Read}
-
--- ---- the two bytes
-
-pub of_dispute : (old : ℕ) → old ≡ OLD_DISPUTE → REPLY ≡ new_operation old
-of_dispute old e = rw (eq-eqb old OLD_DISPUTE e)
-
-pub of_other : (old : ℕ) → (old ≡ OLD_DISPUTE → ⊥) → old ≡ new_operation old
-of_other old ne = rw (ne_eqb old OLD_DISPUTE ne)
-
-pub flags_of_accept : (old flags : ℕ) → old ≡ OLD_ACCEPT → flags / 1 % 2 + 4 ≡ new_flags old flags
-flags_of_accept old flags e = rw (eq-eqb old OLD_ACCEPT e)
-
-pub flags_of_other : (old flags : ℕ) → (old ≡ OLD_ACCEPT → ⊥) → flags ≡ new_flags old flags
-flags_of_other old flags ne = rw (ne_eqb old OLD_ACCEPT ne)
 
 -- ---- an entry: the part as the code lends it, and both stores
 

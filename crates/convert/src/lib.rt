@@ -34,8 +34,7 @@ fn convert_at(recording: &mut [u8], at: usize)
     requires { at + Limits.ENTRY_BYTES ≤ length recording.old }
     ensures { recording.new ≡ converted_at at recording.old }
 {
-    let end = at + RECORD_BYTES;
-    let read = record::read_by(Form::Old, &recording[at..end]);
+    let read = record::read_by(Form::Old, &recording[at..at + RECORD_BYTES]);
     let old = read.submission.op;
     let operation = new_operation(old);
     let flags = new_flags(old, recording[at + FLAGS_AT]);
@@ -43,14 +42,12 @@ fn convert_at(recording: &mut [u8], at: usize)
     recording[at + FLAGS_AT] = flags;
 }
 
-// Every whole entry. A last one that is cut short stays.
+// Every whole entry. A last one that is cut short stays. What std's `chunks_exact_mut` lends comes back without a word on what was written, so an
+// entry is taken by its place.
 pub fn convert(recording: &mut [u8])
     ensures { recording.new ≡ converted recording.old }
 {
-    let entries = recording.len() / ENTRY_BYTES;
-    let mut entry = 0;
-    while entry < entries {
+    for entry in 0..recording.len() / ENTRY_BYTES {
         convert_at(recording, entry * ENTRY_BYTES);
-        entry += 1;
     }
 }

@@ -1,24 +1,17 @@
--- The lookups, over plain values: a part by its place, and the search for a wallet by what was tested and found.
+-- The search for a wallet, over plain values: its answer by what was tested and found.
 use mathlib.Core.Path.{◌≡◌, refl, sym, ◌∙◌, subst}
 use mathlib.Core.List.{List}
 use mathlib.Core.Bool.{Bool, true, false, not, cond, ◌&&◌, ◌||◌, false≢true}
-use Prim.Native.Nat.{ℕ, ◌*◌, ◌≤◌}
+use Prim.Native.Nat.{ℕ}
 use lib.Dec.{eqb}
-use lib.ListN.{get_or, length}
+use lib.ListN.{get_or}
 use Rattle.rules.specs.Limits.{WALLET_LEN, MAX_WALLETS, WALLETS}
-use Rattle.rules.specs.Lookup.{count_right, part_at, wallet_state}
+use Rattle.rules.specs.Lookup.{count_right, wallet_state}
 use Rattle.rules.specs.Wallets.{look_up}
 use Rattle.rules.specs.declared.Edition.{Edition}
 use Rattle.rules.specs.declared.WalletState.{WalletState}
 use Rattle.rules.specs.declared.WalletState.TheVariants.{Missing}
 use Rattle.rules.proofs.Bools.{or_none_fst, or_none_snd, not_false_true}
-use Rattle.rows.specs.Part.{placed}
-use Rattle.rules.proofs.Places.{count_fits}
-
--- a part at a place that was worked out
-pub part_by : (len : ℕ) (t r : List ℕ) (p q : ℕ × ℕ) {place place' : ℕ} → place ≡ place' → (r ≡ part_at len t place) × (q ≡ placed p place)
-    → (r ≡ part_at len t place') × (q ≡ placed p place')
-part_by len t r p q e x = subst (λ (k : ℕ). (r ≡ part_at len t k) × (q ≡ placed p k)) e x
 
 -- the wallets' count is right
 abbrev Right : Edition → List ℕ → List ℕ → Bool
@@ -35,13 +28,9 @@ not_asked ed header wallets id x t = go (Right ed header wallets) (eqb id 0) (su
     go true false e = absurd (false≢true e)
     go false z e = refl
 
--- otherwise the count is right, and its rows are in the table
+-- otherwise the count is right
 pub asked : (ed : Edition) (header wallets : List ℕ) (id : ℕ) {right : Bool} → right ≡ Right ed header wallets → not right || eqb id 0 ≡ false → Right ed header wallets ≡ true
 asked ed header wallets id {right} x t = sym x ∙ not_false_true right (or_none_fst (not right) (eqb id 0) t)
-
-pub counted : (ed : Edition) (header wallets : List ℕ) (id : ℕ) {right : Bool} {n : ℕ} → right ≡ Right ed header wallets → not right || eqb id 0 ≡ false → n ≡ get_or header WALLETS 0
-    → n * WALLET_LEN ≤ length wallets
-counted ed header wallets id x t y = rw y (count_fits ed.header WALLETS WALLET_LEN MAX_WALLETS header wallets (asked ed header wallets id x t))
 
 -- and the answer is what the search found
 pub searched : (ed : Edition) (header wallets : List ℕ) (id : ℕ) {right : Bool} {n : ℕ} {state : WalletState} → right ≡ Right ed header wallets

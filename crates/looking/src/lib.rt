@@ -1,4 +1,5 @@
-// Row lookups: that very row of the caller's table, or an empty part; and the search for a wallet.
+// Row lookups: that very row of the caller's table, or an empty part; and the search for a wallet. Escrows and receipts have a call each over one
+// `rows::row_place` and one `rows::row_part`: what is left is the kind of number, and the words and lengths that the paper gives each table.
 #![tactic(auto)]
 
 ghost use Rattle.std.specs.Prelude.{◌≡◌};

@@ -11,12 +11,17 @@ use borrow.Author.Tests.{leb-true, ne_eqb}
 use Rattle.rules.specs.Limits.{GRANT, TRANSFER, OPEN, RELEASE, REFUND, CLAIM, REPLY, OLD_DISPUTE, SWEEP, FREEZE, CAPS, CLOSE, LAST_OPERATION, LAST_TIME_MS}
 use Rattle.rules.specs.Table.{all, every}
 use Rattle.rules.specs.Record.{bit, in_form, uses_of, used_or_zero, bits_apart, well_formed_by}
+use denote.Enum.Bare.{sameb}
+use Rattle.rules.specs.contracts.Form.{the_type}
 use Rattle.rules.specs.declared.Form.{Form}
 use Rattle.rules.specs.declared.Form.TheVariants.{Old, Today}
 use Rattle.rules.specs.declared.Submission.{Submission}
-use Rattle.record.specs.Forms.{is_today}
 use Rattle.rules.proofs.Bools.{all_at, or_other, not_true_false}
 use Rattle.rules.proofs.Below.{below}
+
+-- ---- which of the two forms it is, as the code asks for it
+abbrev is_today : Form → Bool
+is_today f = sameb the_type f Today
 
 -- ---- the code's tests of an operation
 abbrev is_envelope : ℕ → Bool

@@ -1,10 +1,10 @@
 -- The reader and the writer as wholes, over plain values: what they answer from what their parts found.
-use mathlib.Core.Path.{◌≡◌, sym, ◌∙◌, subst}
+use mathlib.Core.Path.{◌≡◌, ◌∙◌}
 use mathlib.Core.List.{List}
 use mathlib.Core.Bool.{Bool, true, false, cond, ◌&&◌}
-use Prim.Native.Nat.{ℕ, ◌≤◌}
-use lib.Dec.{T, eqb, leb, lit≤}
-use lib.ListN.{get_or, set, length, length-set}
+use Prim.Native.Nat.{ℕ}
+use lib.Dec.{eqb}
+use lib.ListN.{get_or, set, length}
 use lib.Seq.{sets}
 use borrow.Author.Tests.{eq-eqb, ne_eqb}
 use Rattle.rules.specs.Limits.{RECORD_BYTES, MARK_0, MARK_1}
@@ -13,10 +13,6 @@ use Rattle.rules.specs.declared.Form.{Form}
 use Rattle.rules.specs.declared.Submission.{Submission}
 use Rattle.rules.specs.declared.Read.{Read}
 use Rattle.rules.proofs.Rows.{sets_whole}
-
--- a place of a record is within it
-pub room : (b : List ℕ) → length b ≡ RECORD_BYTES → {m : ℕ} → T (leb m RECORD_BYTES) → m ≤ length b
-room b h {m} t = subst (λ (n : ℕ). m ≤ n) (sym h) (lit≤ t)
 
 -- ---- the reader
 abbrev refused : Read
@@ -47,12 +43,6 @@ read_malformed f b s r z l x y t = z ∙ rw t at (read_by_lem f b s l x y)
 -- the first four bytes stored, and then the words
 abbrev Headed : List ℕ → Submission → List ℕ
 Headed out s = set (set (set (set out 0 MARK_0) 1 MARK_1) 2 s.op) 3 s.flags
-
-pub headed : (out : List ℕ) (s : Submission) → length (Headed out s) ≡ length out
-headed out s = simp length-set
-
-pub headed_room : (out : List ℕ) (s : Submission) → length out ≡ RECORD_BYTES → RECORD_BYTES ≤ length (Headed out s)
-headed_room out s h = room (Headed out s) (headed out s ∙ h) tt
 
 pub stored : (out out' : List ℕ) (s : Submission) → length out ≡ RECORD_BYTES → out' ≡ sets (Headed out s) 4 (word_bytes (words_of s)) → out' ≡ encode s
 unfolding encode

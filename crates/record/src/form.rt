@@ -1,7 +1,6 @@
 // Whether fields are those of a record that is not malformed, by a form.
 ghost use Rattle.std.specs.Prelude.{◌≡◌};
 ghost use Rattle.rules.specs.Record.{well_formed_by};
-ghost use Rattle.record.specs.Forms.{is_today};
 
 use rules::limits::{
     ACCEPTS, ADMIN, AUTO_OR_FREEZE, CAPS, CLAIM, CLOSE, FREEZE, GRANT, LAST_OPERATION,
@@ -10,23 +9,13 @@ use rules::limits::{
 };
 use rules::{Form, Submission};
 
-// Whether it is today's.
-fn is_today(form: Form) -> bool
-    ensures { result ≡ is_today form }
-{
-    match form {
-        Form::Old => false,
-        Form::Today => true,
-    }
-}
-
 // Whatever the operation does not use is zero, and the rest is within its bounds. The tests are joined by `&` in the definition's order.
 pub fn well_formed(form: Form, s: Submission) -> bool
     ensures { result ≡ well_formed_by form s }
 {
     let op = s.op;
     let flags = s.flags;
-    let today = is_today(form);
+    let today = form == Form::Today;
     // A reply may accept by bit 2 and give a reason by bit 3; in the old form a dispute gave the reason.
     let reply = today & (op == REPLY);
     let gone = today & (op == OLD_DISPUTE);

@@ -3,13 +3,13 @@ use mathlib.Core.Path.{◌≡◌, sym, ap, ap₂, ◌∙◌}
 use mathlib.Core.List.{List}
 use mathlib.Core.Bool.{false}
 use Prim.Native.Nat.{ℕ, suc, ◌+◌, ◌*◌, ◌^◌, ◌≤◌, ◌<◌}
-use native.Mathlib.Nat.{le_of_lt, mul-le-mul, not-suc-le-zero}
+use native.Mathlib.Nat.{le_of_lt, mul-le-mul}
 use native.Mathlib.Numerals.{add-one}
-use native.Mathlib.Decide.{ℕ_discrete}
 use native.Mathlib.Omega.{arith}
 use lib.Dec.{eqb}
 use lib.ListN.{get_or, length, drop, drop_of_length-le}
 use lib.Seq.{sets, drop-cons}
+use borrow.Author.Count.{below_none, below_more}
 use borrow.Author.Tests.{eq-eqb, ne_eqb}
 use Rattle.rules.specs.Limits.{WALLET_LEN, ID}
 use Rattle.rules.specs.Table.{word, put, put_row}
@@ -46,15 +46,11 @@ Passed t id i = (j : ℕ) → j < i → eqb (word t WALLET_LEN j ID) id ≡ fals
 
 pub pass_none : (t : List ℕ) (id : ℕ) → Passed t id 0
 unfolding Passed
-pass_none t id j l = absurd (not-suc-le-zero l)
+pass_none t id = below_none _
 
 pub pass : (t : List ℕ) (id i : ℕ) → Passed t id i → (word t WALLET_LEN i ID ≡ id → ⊥) → Passed t id (i + 1)
 unfolding Passed
-pass t id i h x j l = go (ℕ_discrete j i)
-  where
-    go : Dec (j ≡ i) → eqb (word t WALLET_LEN j ID) id ≡ false
-    go (yes e) = ap (λ (k : ℕ). eqb (word t WALLET_LEN k ID) id) e ∙ ne_eqb _ _ x
-    go (no e) = h j (omega (arith, e))
+pass t id i h x = below_more _ i h (ne_eqb _ _ x)
 
 -- so the next that has it is its row; and if none is left, there is none
 pub found : (t : List ℕ) (n id i : ℕ) → i < n → Passed t id i → word t WALLET_LEN i ID ≡ id → i ≡ row_of t n id

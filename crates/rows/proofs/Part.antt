@@ -1,24 +1,13 @@
--- Parts of a table, once for every row length: the words from a place on, and the place of a row by what was tested.
-use mathlib.Core.Path.{◌≡◌, sym, ap, ◌∙◌}
+-- The place of a row in its table, by what was tested, once for every row length.
+use mathlib.Core.Path.{◌≡◌}
 use mathlib.Core.List.{List}
 use mathlib.Core.Bool.{Bool, true, false, ◌&&◌}
-use Prim.Native.Nat.{ℕ, ◌+◌, ◌-◌, ◌*◌, ◌/◌, ◌<◌}
-use native.Mathlib.Omega.{arith}
+use Prim.Native.Nat.{ℕ, ◌-◌, ◌*◌, ◌/◌}
 use lib.Dec.{eqb, ltb, leb}
-use lib.ListN.{get_or, length, take, drop, length-drop}
-use lib.Seq.{take_all}
+use lib.ListN.{get_or, length}
 use Rattle.rules.specs.Table.{table_right}
 use Rattle.rules.specs.Ledger.{written}
-use Rattle.rules.specs.Lookup.{count_right, row_place, part_at}
-
--- the words from a place on, where they are all there, and where the table ends before
-pub part_whole : (len place : ℕ) (t : List ℕ) → take (place + len - place) (drop place t) ≡ part_at len t place
-part_whole len place t = let e : place + len - place ≡ len = omega arith in ap (λ (k : ℕ). take k (drop place t)) e
-
-pub part_end : (len place : ℕ) (t : List ℕ) → length t < place + len → take (length t - place) (drop place t) ≡ part_at len t place
-part_end len place t h =
-    let e : length (drop place t) ≡ length t - place = length-drop place t in
-    take_all (length t - place) (drop place t) (omega arith) ∙ sym (take_all len (drop place t) (omega arith))
+use Rattle.rules.specs.Lookup.{count_right, row_place}
 
 -- the same tests over what was worked out of them: a table's right, a count
 pub count_by : (header_len c len most : ℕ) (header t : List ℕ) {right : Bool} {n : ℕ} → right ≡ table_right len most t → n ≡ get_or header c 0

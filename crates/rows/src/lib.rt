@@ -16,7 +16,7 @@ pub mod numbered;
 pub fn at(t: &[u64], i: usize) -> u64
     ensures { result ≡ get_or t.now i 0 }
 {
-    if i < t.len() { t[i] } else { 0 }
+    t.get(i).copied().unwrap_or(0)
 }
 
 // Word k of a row; 0 past the end.
@@ -27,7 +27,7 @@ pub fn get(t: &[u64], len: usize, row: usize, k: usize) -> u64
     at(t, row * len + k)
 }
 
-// v at word k of a row; nothing past the end.
+// v at word k of a row; nothing past the end. What std's `get_mut` lends comes back without a word on what was written, so the test is ours.
 pub fn set(t: &mut [u64], len: usize, row: usize, k: usize, v: u64)
     requires { (row < 2 ^ 32) × (len < 2 ^ 16) × (k < 2 ^ 16) }
     ensures { t.new ≡ put t.old len row k v }
@@ -43,10 +43,8 @@ pub fn put_row(t: &mut [u64], len: usize, row: usize, vs: &[u64])
     requires { (row < 2 ^ 32) × (len < 2 ^ 16) × (length vs.now < 2 ^ 16) }
     ensures { t.new ≡ put_row t.old len row vs.now }
 {
-    let mut k = 0;
-    while k < vs.len() {
-        set(t, len, row, k, vs[k]);
-        k += 1;
+    for (k, &v) in vs.iter().enumerate() {
+        set(t, len, row, k, v);
     }
 }
 
@@ -57,7 +55,8 @@ pub fn choose(b: bool, n: u64, rest: u64) -> u64
     if b { n } else { rest }
 }
 
-// The first of n wallet rows that has the id; n where there is none. The search stops at its row.
+// The first of n wallet rows that has the id; n where there is none. The search stops at its row. The paper names the form: a loop that yields
+// the row by `break`, or the count; no `for` yields a value.
 pub fn find_row(t: &[u64], n: usize, id: u64) -> usize
     requires { n * Limits.WALLET_LEN ≤ length t.now }
     ensures { result ≡ row_of t.now n id }
@@ -125,10 +124,6 @@ pub fn row_part<'a>(t: &'a [u64], len: usize, place: usize) -> &'a [u64]
     requires { (len < 2 ^ 16) × (place ≤ length t.now) }
     ensures { (result.now ≡ part_at len t.now place) × (result.ref_ptr ≡ placed t.entry.ref_ptr place) }
 {
-    let end = place + len;
-    if end <= t.len() {
-        &t[place..end]
-    } else {
-        &t[place..]
-    }
+    let end = (place + len).min(t.len());
+    &t[place..end]
 }

@@ -1,5 +1,6 @@
 // Words of a row by the row's number, counted from 1. Wallets, escrows and receipts are numbered apart, each by a type of its own, so none is
-// looked up or closed in the place of another.
+// looked up or closed in the place of another. A read and a write for each, over one `get` and one `set`: the length of an escrow's row is the
+// edition's, so one generic of the three would ask for an edition where a wallet or a receipt is read.
 ghost use Rattle.std.specs.Prelude.{◌≡◌, ◌-◌, ◌*◌, ◌<◌, ◌≤◌, ◌^◌, length};
 ghost use Rattle.rules.specs.Limits;
 ghost use Rattle.rules.specs.Table.{word, put};

@@ -1,12 +1,17 @@
--- Stores of words in bytes: what is left to store, one step further and at the end. Once for every width, and once for every number of words.
+-- Stores of words in bytes: what is left to store, one step further and at the end, once for every width, and once for every number of words; and
+-- that std's 8 bytes of a word, copied over a part, are that word stored there.
 use mathlib.Core.Path.{◌≡◌, refl, sym, ap, ap₂, ◌∙◌}
 use mathlib.Core.List.{List}
-use Prim.Native.Nat.{ℕ, zero, suc, ◌+◌, ◌-◌, ◌/◌, ◌%◌, ◌≤◌, ◌<◌}
-use native.Mathlib.Nat.{not-suc-le-zero}
+use Prim.Native.Nat.{ℕ, suc, ◌+◌, ◌-◌, ◌/◌, ◌%◌, ◌≤◌, ◌<◌}
+use native.Mathlib.Nat.{div-div-eq-div-mul}
 use native.Mathlib.Numerals.{add-one}
 use native.Mathlib.Omega.{arith}
 use lib.ListN.{get_or, set, length, drop, drop_of_length-le}
 use lib.Seq.{sets, drop-cons}
+use borrow.Rule.Slice.PartMut.{put_mid}
+use Rattle.std.specs.Int.{w64, to_le_bytes}
+use Rattle.std.proofs.lemmas.List.Edits.{sets-eq}
+use Rattle.std.proofs.lemmas.Slice.{put_mid-paste}
 use Rattle.rules.specs.Record.{le_bytes, word_bytes}
 use Rattle.rules.proofs.Rows.{sets_append}
 
@@ -14,32 +19,38 @@ use Rattle.rules.proofs.Rows.{sets_append}
 unfoldable pub le_put : ℕ → List ℕ → ℕ → ℕ → List ℕ
 le_put n b p x = sets b p (le_bytes n x)
 
-pub le_next : (n : ℕ) (b : List ℕ) (p x : ℕ) → 0 < n → le_put n b p x ≡ le_put (n - 1) (set b p (x % 256)) (p + 1) (x / 256)
+pub le_next : (n m : ℕ) (b : List ℕ) (p x : ℕ) → n ≡ m + 1 → le_put n b p x ≡ le_put m (set b p (x % 256)) (p + 1) (x / 256)
 unfolding le_put
-le_next zero b p x h = absurd (not-suc-le-zero h)
-le_next (suc n) b p x h =
-    let e : n ≡ suc n - 1 = omega arith in
-    ap₂ (λ (q m : ℕ). sets (set b p (x % 256)) q (le_bytes m (x / 256))) (sym (add-one p)) e
+le_next n m b p x e =
+    ap (λ (k : ℕ). sets b p (le_bytes k x)) (e ∙ add-one m) ∙ ap (λ (q : ℕ). sets (set b p (x % 256)) q (le_bytes m (x / 256))) (sym (add-one p))
 
 pub le_all : (n : ℕ) (b : List ℕ) (p x : ℕ) → le_put n b p x ≡ sets b p (le_bytes n x)
 unfolding le_put
 le_all n b p x = refl
 
-pub le_done : (n : ℕ) (b : List ℕ) (p x : ℕ) → n ≤ 0 → le_put n b p x ≡ b
+pub le_done : (n : ℕ) (b : List ℕ) (p x : ℕ) → n ≡ 0 → le_put n b p x ≡ b
 unfolding le_put
-le_done zero b p x h = refl
-le_done (suc n) b p x h = absurd (not-suc-le-zero h)
+le_done n b p x e = ap (λ (k : ℕ). sets b p (le_bytes k x)) e
+
+-- std's bytes of a word are ours, so a copy of them stores the word
+pub bytes_same : (w : ℕ) → to_le_bytes w64 w ≡ le_bytes 8 w
+bytes_same w = simp div-div-eq-div-mul
+
+pub word_stored : (b ys : List ℕ) (p w : ℕ) → p + 8 ≤ length b → ys ≡ to_le_bytes w64 w → put_mid p (p + 8 - p) b ys ≡ sets b p (le_bytes 8 w)
+word_stored b ys p w h x = put_mid-paste p (p + 8 - p) b ys (le_bytes 8 w) 8 (x ∙ bytes_same w) (omega arith) refl ∙ sym (sets-eq (le_bytes 8 w) b p h)
 
 -- the words from the i-th on, stored from place p on
 unfoldable pub words_put : List ℕ → ℕ → ℕ → List ℕ → List ℕ
 words_put b p i ws = sets b p (word_bytes (drop i ws))
 
-pub words_next : (b b' : List ℕ) (p i : ℕ) (ws : List ℕ) → i < length ws → b' ≡ sets b p (le_bytes 8 (get_or ws i 0)) → words_put b p i ws ≡ words_put b' (p + 8) (i + 1) ws
+pub words_next : (b b' : List ℕ) (p q i : ℕ) (ws : List ℕ) → i < length ws → q ≡ p + 8 → b' ≡ sets b p (le_bytes 8 (get_or ws i 0))
+    → words_put b p i ws ≡ words_put b' q (i + 1) ws
 unfolding words_put
-words_next b b' p i ws h x =
+words_next b b' p q i ws h e x =
     ap (λ (l : List ℕ). sets b p (word_bytes l)) (drop-cons ws i 0 h)
     ∙ sets_append (le_bytes 8 (get_or ws i 0)) (word_bytes (drop (suc i) ws)) b p
     ∙ ap₂ (λ (l : List ℕ) (k : ℕ). sets l (p + 8) (word_bytes (drop k ws))) (sym x) (sym (add-one i))
+    ∙ ap (λ (k : ℕ). sets b' k (word_bytes (drop (i + 1) ws))) (sym e)
 
 pub words_all : (b : List ℕ) (p : ℕ) (ws : List ℕ) → words_put b p 0 ws ≡ sets b p (word_bytes ws)
 unfolding words_put

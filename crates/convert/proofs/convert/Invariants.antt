@@ -1,10 +1,6 @@
 -- `convert::convert` meets its contract.
-use Prim.Native.Nat.{◌-◌}
 use Rattle.convert.proofs.Turned.{Turned}
 use Rattle.convert.proofs.convert.Given as goal
 
 abbrev pub invariant-loop-entry : goal.invariant-loop-entry
 invariant-loop-entry l = Turned l.initial.recording l.entry l.recording
-
-abbrev pub decreases-loop-entry : goal.decreases-loop-entry
-decreases-loop-entry l = l.entries - l.entry

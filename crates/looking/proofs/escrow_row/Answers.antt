@@ -2,7 +2,6 @@
 use native.Mathlib.Omega.{arith}
 use Rattle.rules.specs.Limits.{MAX_ESCROWS, ESCROWS}
 use Rattle.rules.proofs.Places.{place_within}
-use Rattle.looking.proofs.Parts.{part_by}
 use borrow.Author.Rules.{rules}
 use Rattle.looking.proofs.escrow_row.Goals as goal
 
@@ -10,8 +9,3 @@ pub row_part-requires : goal.row_part-requires
 row_part-requires c =
     let a = c.args in
     (search rules, omega (arith, place_within a.edition.header ESCROWS a.edition.escrow MAX_ESCROWS a.header.now a.escrows.now a.n.0))
-
-pub returns : goal.returns
-returns c =
-    let a = c.args in
-    part_by a.edition.escrow a.escrows.now c.row_part.result.now a.escrows.ref_ptr c.row_part.result.ref_ptr c.escrow_place-place.ensures c.row_part.ensures

@@ -2,7 +2,6 @@
 use native.Mathlib.Omega.{arith}
 use Rattle.rules.specs.Limits.{RECEIPT_LEN, MAX_RECEIPTS, RECEIPTS}
 use Rattle.rules.proofs.Places.{place_within}
-use Rattle.looking.proofs.Parts.{part_by}
 use borrow.Author.Rules.{rules}
 use Rattle.looking.proofs.receipt_row.Goals as goal
 
@@ -10,8 +9,3 @@ pub row_part-requires : goal.row_part-requires
 row_part-requires c =
     let a = c.args in
     (search rules, omega (arith, place_within a.edition.header RECEIPTS RECEIPT_LEN MAX_RECEIPTS a.header.now a.receipts.now a.n.0))
-
-pub returns : goal.returns
-returns c =
-    let a = c.args in
-    part_by RECEIPT_LEN a.receipts.now c.row_part.result.now a.receipts.ref_ptr c.row_part.result.ref_ptr c.receipt_place-place.ensures c.row_part.ensures

@@ -1,14 +1,10 @@
 -- `rows::find_row` meets its contract: no row before i has the id.
 use native.Mathlib.Omega.{arith}
-use Rattle.rules.proofs.Rows.{in_table}
 use Rattle.rows.proofs.Laws.{pass_none, pass, found, none}
 use Rattle.rows.proofs.find_row.Goals as goal
 
 pub loop-i-init : goal.loop-i-init
 loop-i-init c = (omega arith, pass_none _ _)
-
-pub bounds-t-i : goal.bounds-t-i
-bounds-t-i c = in_table _ _ _ _ c.args.t.now c.requires (omega arith) (omega arith)
 
 pub loop-i-preserved : goal.loop-i-preserved
 loop-i-preserved c = (omega arith, pass _ _ _ c.loop-i.invariant.1 c.if-t-i.false)

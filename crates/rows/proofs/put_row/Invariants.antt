@@ -1,13 +1,8 @@
 -- `rows::put_row` meets its contract: what is left of vs, written from word k on, makes the whole row.
 use mathlib.Core.Path.{◌≡◌}
-use Prim.Native.Nat.{◌-◌, ◌≤◌}
-use lib.ListN.{length}
 use Rattle.rules.specs.Table.{put_row}
 use Rattle.rows.proofs.Laws.{row_from}
 use Rattle.rows.proofs.put_row.Given as goal
 
 abbrev pub invariant-loop-k : goal.invariant-loop-k
-invariant-loop-k l = (l.k ≤ length l.vs) × (length l.t ≡ length l.initial.t) × (put_row l.initial.t l.len l.row l.vs ≡ row_from l.t l.len l.row l.k l.vs)
-
-abbrev pub decreases-loop-k : goal.decreases-loop-k
-decreases-loop-k l = length l.vs - l.k
+invariant-loop-k l = put_row l.initial.t l.len l.row l.vs ≡ row_from l.t l.len l.row l.k l.vs

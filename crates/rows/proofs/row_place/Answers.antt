@@ -28,9 +28,6 @@ fits c =
       row_whole a.header_len a.c a.len a.most a.header.now a.t.now a.number (there c),
     )
 
-pub overflow_sub-result : goal.overflow_sub-result
-overflow_sub-result c = (fits c).0
-
 pub overflow_mul-result : goal.overflow_mul-result
 overflow_mul-result c = omega (arith, (fits c).1)
 

@@ -1,12 +1,8 @@
 -- `word_bytes::put_le` meets its contract: what is left to store makes the whole.
 use mathlib.Core.Path.{◌≡◌}
-use Prim.Native.Nat.{◌+◌}
-use lib.ListN.{length}
+use Prim.Native.Nat.{◌+◌, ◌-◌}
 use Rattle.word_bytes.proofs.Stores.{le_put}
 use Rattle.word_bytes.proofs.put_le.Given as goal
 
-abbrev pub invariant-loop-left : goal.invariant-loop-left
-invariant-loop-left l = (length l.b ≡ length l.initial.b) × (l.p + l.left ≡ l.at + l.n) × (le_put l.n l.initial.b l.at l.x ≡ le_put l.left l.b l.p l.v)
-
-abbrev pub decreases-loop-left : goal.decreases-loop-left
-decreases-loop-left l = l.left
+abbrev pub invariant-loop-p : goal.invariant-loop-p
+invariant-loop-p l = le_put l.n l.initial.b l.at l.x ≡ le_put (l.at + l.n - l.p) l.b l.p l.v

@@ -1,24 +1,20 @@
 -- `word_bytes::put_words` meets its contract: what is left to store makes the whole.
-use mathlib.Core.Path.{refl, sym, ◌∙◌}
-use Prim.Native.Nat.{◌≤◌, ◌<◌}
+use mathlib.Core.Path.{sym, ◌∙◌}
+use Prim.Native.Nat.{◌+◌, ◌*◌, ◌≤◌, ◌<◌}
 use native.Mathlib.Omega.{arith}
 use lib.ListN.{length}
-use Rattle.word_bytes.proofs.Stores.{words_all, words_next, words_done}
+use Rattle.word_bytes.proofs.Stores.{words_all, words_next, words_done, word_stored}
 use Rattle.word_bytes.proofs.put_words.Goals as goal
-
-pub loop-i-init : goal.loop-i-init
-loop-i-init c = (omega arith, omega arith, refl, refl)
 
 pub loop-i-preserved : goal.loop-i-preserved
 loop-i-preserved c =
     let l = c.loop-i in
-    let h : l.i < length c.args.words.now = omega arith in
-    (omega arith, omega arith, c.put_le.auto.b ∙ l.invariant.2, l.invariant.3 ∙ words_next _ _ _ _ _ h c.put_le.ensures)
-
-pub shape_of-b : goal.shape_of-b
-shape_of-b c = c.loop-i.invariant.2
+    let a = c.args in
+    let h : l.i < length a.words.now = omega arith in
+    let room : a.at + 8 * l.i + 8 ≤ length l.b = omega arith in
+    l.invariant ∙ words_next _ _ _ _ _ _ h (omega arith) (word_stored _ _ _ _ room (c.copy_from_slice.ensures.after ∙ c.to_le_bytes.ensures))
 
 pub returns : goal.returns
 returns c =
     let h : length c.args.words.now ≤ c.loop-i.i = omega arith in
-    sym (c.loop-i.invariant.3 ∙ words_done _ _ _ _ h) ∙ words_all _ _ _
+    sym (c.loop-i.invariant ∙ words_done _ _ _ _ h) ∙ words_all _ _ _

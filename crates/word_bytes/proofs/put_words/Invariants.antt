@@ -1,13 +1,8 @@
 -- `word_bytes::put_words` meets its contract: what is left to store makes the whole.
 use mathlib.Core.Path.{◌≡◌}
-use Prim.Native.Nat.{◌+◌, ◌-◌, ◌*◌, ◌≤◌}
-use lib.ListN.{length}
+use Prim.Native.Nat.{◌+◌, ◌*◌}
 use Rattle.word_bytes.proofs.Stores.{words_put}
 use Rattle.word_bytes.proofs.put_words.Given as goal
 
 abbrev pub invariant-loop-i : goal.invariant-loop-i
-invariant-loop-i l =
-    (l.i ≤ length l.words) × (l.p ≡ l.at + 8 * l.i) × (length l.b ≡ length l.initial.b) × (words_put l.initial.b l.at 0 l.words ≡ words_put l.b l.p l.i l.words)
-
-abbrev pub decreases-loop-i : goal.decreases-loop-i
-decreases-loop-i l = length l.words - l.i
+invariant-loop-i l = words_put l.initial.b l.at 0 l.words ≡ words_put l.b (l.at + 8 * l.i) l.i l.words

@@ -3,4 +3,4 @@ use Rattle.record.proofs.Uses.{formed}
 use Rattle.record.proofs.form.well_formed.Goals as goal
 
 pub returns : goal.returns
-returns c = formed c.args.form c.args.s c.is_today-today.ensures
+returns c = formed c.args.form c.args.s c.eq-today.ensures

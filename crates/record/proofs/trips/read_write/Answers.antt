@@ -4,5 +4,5 @@ use Rattle.record.proofs.trips.read_write.Goals as goal
 
 pub returns : goal.returns
 returns c =
-    trip_of_bytes _ _ _ _ _ (λ i. (c.shared_slice_known-1.given i).fits)
+    trip_of_bytes _ _ _ _ _ (λ i. (c.type_inv.bytes i).fits)
     c.read_record-read.ensures c.write_record.ensures

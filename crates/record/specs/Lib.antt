@@ -1,2 +1,0 @@
--- What the functions of this crate speak of among themselves.
-pub mod Forms
