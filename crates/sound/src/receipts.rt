@@ -54,12 +54,10 @@ pub fn receipts_right(e: &[u64], len: usize, m: usize, r: &[u64], p: usize) -> b
     requires { (m * len ≤ length e.now) × (len ≤ length e.now) × (p * Limits.RECEIPT_LEN ≤ length r.now) × (Limits.ESCROW_LEN ≤ len) }
     ensures { result ≡ every p (λ i. all (receipt_tests (receipts_in len e.now m r.now) i)) }
 {
-    let mut k: usize = 0;
-    while k < p {
+    for k in 0..p {
         if !receipt_right(e, len, m, r, k) {
             return false;
         }
-        k += 1;
     }
     true
 }

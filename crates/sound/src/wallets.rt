@@ -19,12 +19,10 @@ pub fn wallets_right(w: &[u64], n: usize) -> bool
     requires { n * Limits.WALLET_LEN ≤ length w.now }
     ensures { result ≡ every n (λ i. all (wallet_tests (wallets_in w.now n) i)) }
 {
-    let mut i: usize = 0;
-    while i < n {
+    for i in 0..n {
         if !wallet_right(w, i) {
             return false;
         }
-        i += 1;
     }
     true
 }
@@ -38,8 +36,7 @@ pub fn total_right(w: &[u64], n: usize, granted: u64) -> bool
         return false;
     }
     let mut left = granted;
-    let mut i: usize = 0;
-    while i < n {
+    for i in 0..n {
         let balance = w[i * WALLET_LEN + BALANCE];
         if left < balance {
             return false;
@@ -50,7 +47,6 @@ pub fn total_right(w: &[u64], n: usize, granted: u64) -> bool
             return false;
         }
         left -= locked;
-        i += 1;
     }
     left == 0
 }
