@@ -5,3 +5,4 @@ pub mod Holds
 pub mod Parties
 pub mod Counted
 pub mod Whole
+pub mod Every

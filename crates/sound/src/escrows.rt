@@ -73,12 +73,7 @@ fn locked_right(w: &[u64], n: usize, sums: &[u64; NUMBERS]) -> bool
     requires { (n * Limits.WALLET_LEN ≤ length w.now) × (n ≤ Limits.MAX_WALLETS) }
     ensures { result ≡ every n (locked_is w.now sums.now) }
 {
-    for i in 0..n {
-        if w[i * WALLET_LEN + LOCKED] != sums[i + 1] {
-            return false;
-        }
-    }
-    true
+    (0..n).all(|i| w[i * WALLET_LEN + LOCKED] == sums[i + 1])
 }
 
 // Whether ids differ, each escrow names two different written wallets and is right by itself, and each wallet's locked is what its open

@@ -27,10 +27,5 @@ pub fn entries_right(j: &[u64], q: usize) -> bool
     requires { q * Limits.JOURNAL_LEN ≤ length j.now }
     ensures { result ≡ every q (λ i. all (entry_tests (entries_in j.now) i)) }
 {
-    for k in 0..q {
-        if !entry_right(j, k) {
-            return false;
-        }
-    }
-    true
+    (0..q).all(|k| entry_right(j, k))
 }

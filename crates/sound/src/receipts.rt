@@ -54,10 +54,5 @@ pub fn receipts_right(e: &[u64], len: usize, m: usize, r: &[u64], p: usize) -> b
     requires { (m * len ≤ length e.now) × (len ≤ length e.now) × (p * Limits.RECEIPT_LEN ≤ length r.now) × (Limits.ESCROW_LEN ≤ len) }
     ensures { result ≡ every p (λ i. all (receipt_tests (receipts_in len e.now m r.now) i)) }
 {
-    for k in 0..p {
-        if !receipt_right(e, len, m, r, k) {
-            return false;
-        }
-    }
-    true
+    (0..p).all(|k| receipt_right(e, len, m, r, k))
 }

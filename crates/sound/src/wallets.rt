@@ -19,12 +19,7 @@ pub fn wallets_right(w: &[u64], n: usize) -> bool
     requires { n * Limits.WALLET_LEN ≤ length w.now }
     ensures { result ≡ every n (λ i. all (wallet_tests (wallets_in w.now n) i)) }
 {
-    for i in 0..n {
-        if !wallet_right(w, i) {
-            return false;
-        }
-    }
-    true
+    (0..n).all(|i| wallet_right(w, i))
 }
 
 // Balances and locked together are the granted total, which is within its limit. What is left of it counts down, so that nothing wraps.
