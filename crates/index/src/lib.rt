@@ -43,11 +43,7 @@ fn differs_before(ids: &[u64; NUMBERS], i: usize) -> bool
     ensures { result ≡ every i (differs ids.now i) }
 {
     let x = ids[i + 1];
-    let mut ok = true;
-    for j in 0..i {
-        ok &= ids[j + 1] != x;
-    }
-    ok
+    (0..i).all(|j| ids[j + 1] != x)
 }
 
 // Whether the ids of the first n rows differ, by comparing each two.
@@ -55,11 +51,7 @@ fn differ_each(ids: &[u64; NUMBERS], n: usize) -> bool
     requires { n ≤ Limits.MAX_WALLETS }
     ensures { result ≡ distinct n (id_at ids.now) }
 {
-    let mut ok = true;
-    for i in 0..n {
-        ok &= differs_before(ids, i);
-    }
-    ok
+    (0..n).all(|i| differs_before(ids, i))
 }
 
 // A free place where the walk of an id ends, and the steps that it takes to come there.

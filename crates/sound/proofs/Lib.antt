@@ -5,4 +5,3 @@ pub mod Holds
 pub mod Parties
 pub mod Counted
 pub mod Whole
-pub mod Every

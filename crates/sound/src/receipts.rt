@@ -15,11 +15,7 @@ use rules::limits::{
 fn row_at(number: EscrowNumber) -> usize
     ensures { result ≡ number.0 - 1 }
 {
-    if number.0 == 0 {
-        0
-    } else {
-        number.0 as usize - 1
-    }
+    number.0.saturating_sub(1) as usize
 }
 
 // A link is 0, or a written escrow from the requester to the provider.

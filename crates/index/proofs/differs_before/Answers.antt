@@ -1,16 +1,9 @@
--- `index::differs_before` meets its contract. The loop's invariant: `ok` says whether the rows passed have another id.
-use native.Mathlib.Omega.{arith}
-use mathlib.Core.Path.{◌≡◌, sym, refl}
-use Rattle.rules.proofs.Counts.{every_none, every_step}
+-- `index::differs_before` meets its contract: `all` answers whether the test of a row holds of every one.
+use mathlib.Core.Path.{refl}
+use borrow.Author.Rules.{rules}
+use Rattle.index.specs.Index.{differs}
+use Rattle.index.proofs.Every.{every_below}
 use Rattle.index.proofs.differs_before.Goals as goal
 
-pub loop-j-init : goal.loop-j-init
-loop-j-init c = sym (every_none _)
-
-pub loop-j-preserved : goal.loop-j-preserved
-loop-j-preserved c = every_step _ _ c.loop-j.invariant refl
-
 pub returns : goal.returns
-returns c =
-    let e : c.loop-j.j ≡ c.args.i = omega arith in
-    rw e at c.loop-j.invariant
+returns c = every_below _ _ _ c.args.i (differs c.args.ids.now c.args.i) _ refl c.all.ensures.ran (λ x b q k. search rules)

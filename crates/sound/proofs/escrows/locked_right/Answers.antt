@@ -2,7 +2,7 @@
 use mathlib.Core.Path.{refl}
 use borrow.Author.Rules.{rules}
 use Rattle.sound.specs.Parts.{locked_is}
-use Rattle.sound.proofs.Every.{every_below}
+use Rattle.index.proofs.Every.{every_below}
 use Rattle.sound.proofs.escrows.locked_right.Goals as goal
 
 pub returns : goal.returns

@@ -4,7 +4,7 @@ use borrow.Author.Rules.{rules}
 use Rattle.rules.specs.Table.{all}
 use Rattle.rules.specs.Sound.{wallet_tests}
 use Rattle.sound.specs.Parts.{wallets_in}
-use Rattle.sound.proofs.Every.{every_below}
+use Rattle.index.proofs.Every.{every_below}
 use Rattle.sound.proofs.wallets.wallets_right.Goals as goal
 
 pub returns : goal.returns
