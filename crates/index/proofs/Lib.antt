@@ -1,3 +1,4 @@
 -- Laws of the index.
+pub mod Every
 pub mod Laws
 pub mod Walks

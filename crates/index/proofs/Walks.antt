@@ -6,10 +6,12 @@ use Prim.Native.Nat.{ℕ, zero, suc, ◌+◌, ◌-◌, ◌*◌, ◌/◌, ◌%◌
 use native.Mathlib.Nat.{not-suc-le-zero}
 use native.Mathlib.Omega.{arith}
 use native.Mathlib.Decide.{ℕ_discrete, dec_lt}
-use lib.Dec.{eqb, ltb}
+use lib.Dec.{eqb}
 use lib.ListN.{get_or, set, length, length-set, replicate, length-replicate}
 use lib.Seq.{get_or-set_same, get_or-set_other, set_out}
-use borrow.Author.Tests.{eq-eqb, ne_eqb, eqb-true, eqb-false, lt-ltb}
+use borrow.Author.Tests.{eq-eqb, ne_eqb, eqb-true, eqb-false}
+use Rattle.std.specs.Prelude.{Option, Some, is_some}
+use Rattle.std.specs.Bool.{then_some}
 use Rattle.rules.specs.Table.{distinct}
 use Rattle.rules.proofs.Rows.{zeros}
 use Rattle.rules.proofs.Counts.{taken_back}
@@ -52,28 +54,33 @@ module _ (ids u : List ℕ) (x f p y s : ℕ) (e : s ≡ get_or u p 0) where
 elsewhere : (t : List ℕ) (q v p s : ℕ) → get_or t q 0 ≡ 0 → s ≡ get_or t p 0 → (s ≡ 0 → ⊥) → s ≡ get_or (set t q v) p 0
 elsewhere t q v p s f e z = e ∙ sym (get_or-set_other t q p v 0 (λ r. z (e ∙ ap (λ k. get_or t k 0) r ∙ f)))
 
--- on the walk of the id x: whatever is put at a free place, the walk goes on from the place p with `left` steps
-pub record OnWalk (ids t : List ℕ) (x left p y : ℕ) : Type 0 where
-  pub goes : (q v : ℕ) → get_or t q 0 ≡ 0 → walk ids (set t q v) x ≡ walked ids (set t q v) x left p y
+-- on the walk of the id x: whatever is put at a free place, the walk goes on from the place p when it has taken so many steps
+pub record OnWalk (ids t : List ℕ) (x step p y : ℕ) : Type 0 where
+  pub goes : (q v : ℕ) → get_or t q 0 ≡ 0 → walk ids (set t q v) x ≡ walked ids (set t q v) x (STEPS - step) p y
+
+-- the steps that are left, of which one is taken
+one_less : (step : ℕ) → step < STEPS → STEPS - step ≡ suc (STEPS - (step + 1))
+one_less step l = omega arith
 
 module _ (ids t : List ℕ) (x : ℕ) where
-  pub walk_start : OnWalk ids t x STEPS (x % ROOTS) (x / ROOTS)
+  pub walk_start : OnWalk ids t x 0 (x % ROOTS) (x / ROOTS)
   unfolding walk
   walk_start = record { goes = λ q v e. refl }
 
-  pub walk_on : (left p y s : ℕ) → OnWalk ids t x left p y → 0 < left → s ≡ get_or t p 0 → (s ≡ 0 → ⊥) → (get_or ids s 0 ≡ x → ⊥)
-      → OnWalk ids t x (left - 1) (ROOTS + s * BRANCHES + y % BRANCHES) (y / BRANCHES)
-  walk_on zero p y s o l e z d = absurd (not-suc-le-zero l)
-  walk_on (suc f) p y s o l e z d =
-      let m : suc f - 1 ≡ f = omega arith in
-      rw m (record { goes = λ q v r. o.goes q v r ∙ past ids (set t q v) x f p y s (elsewhere t q v p s r e z) z d })
+  pub walk_on : (step p y s : ℕ) → OnWalk ids t x step p y → step < STEPS → s ≡ get_or t p 0 → (s ≡ 0 → ⊥) → (get_or ids s 0 ≡ x → ⊥)
+      → OnWalk ids t x (step + 1) (ROOTS + s * BRANCHES + y % BRANCHES) (y / BRANCHES)
+  walk_on step p y s o l e z d =
+      record {
+        goes = λ q v r.
+            (rw (one_less step l) at (o.goes q v r)) ∙ past ids (set t q v) x (STEPS - (step + 1)) p y s (elsewhere t q v p s r e z) z d;
+      }
 
   -- what is put at the free place where the walk has come
-  pub walk_end : (left p y : ℕ) → OnWalk ids t x left p y → 0 < left → p < length t → get_or t p 0 ≡ 0
+  pub walk_end : (step p y : ℕ) → OnWalk ids t x step p y → step < STEPS → p < length t → get_or t p 0 ≡ 0
       → (v : ℕ) → 0 < v → get_or ids v 0 ≡ x → walk ids (set t p v) x ≡ v
-  walk_end zero p y o l h r v z d = absurd (not-suc-le-zero l)
-  walk_end (suc f) p y o l h r v z d =
-      o.goes p v r ∙ here ids (set t p v) x f p y v (sym (get_or-set_same t p v 0 h)) (omega arith) d
+  walk_end step p y o l h r v z d =
+      (rw (one_less step l) at (o.goes p v r))
+      ∙ here ids (set t p v) x (STEPS - (step + 1)) p y v (sym (get_or-set_same t p v 0 h)) (omega arith) d
 
   kept : (q v : ℕ) → get_or t q 0 ≡ 0 → (f p y r : ℕ) → 0 < r → walked ids t x f p y ≡ r → walked ids (set t q v) x f p y ≡ r
   unfolding walked
@@ -108,21 +115,22 @@ pub record Back (ids : List ℕ) (n : ℕ) (t : List ℕ) : Type 0 where
 pub back_none : (ids t : List ℕ) → Back ids 0 t
 back_none ids t = record { back = λ j h. absurd (not-suc-le-zero h) }
 
-pub back_more : (ids t : List ℕ) (n place left : ℕ) → Back ids n t → Seated ids t (id_at ids n) place left → 0 < left
-    → Back ids (n + 1) (set t place (n + 1))
-back_more ids t n place left h s l = record { back = λ j k. go j k (ℕ_discrete j n) }
+pub back_more : (ids t : List ℕ) (n place : ℕ) → Back ids n t → Seated ids t (id_at ids n) place → Back ids (n + 1) (set t place (n + 1))
+back_more ids t n place h s = record { back = λ j k. go j k (ℕ_discrete j n) }
   where
     go : (j : ℕ) → j < n + 1 → Dec (j ≡ n) → walk ids (set t place (n + 1)) (id_at ids j) ≡ j + 1
-    go j k (yes e) = rw e (s.leads l (n + 1) (omega arith) refl)
-    go j k (no e) = walk_kept ids t (id_at ids j) place (n + 1) (j + 1) (s.free l) (omega arith) (h.back j (omega (arith, e)))
+    go j k (yes e) = rw e (s.leads (n + 1) (omega arith) refl)
+    go j k (no e) = walk_kept ids t (id_at ids j) place (n + 1) (j + 1) s.free (omega arith) (h.back j (omega (arith, e)))
 
 -- every id is in the index, so ids differ; or they were compared
-pub filled_all : (ids t : List ℕ) (n i most : ℕ) → i ≤ n → n ≤ i → Within i t → Back ids i t → 0 < most → Filled ids n t most
-filled_all ids t n i most l g w b m =
-    record {
-      within = within_le i n t l w;
-      right = lt-ltb 0 most m ∙ sym (taken_back n (id_at ids) (walk ids t) (λ j h. b.back j (omega arith)));
-    }
+pub filled_all : (ids t : List ℕ) (n most : ℕ) → Within n t → Back ids n t → Filled ids n t (Some most)
+filled_all ids t n most w b = record { within = w; right = sym (taken_back n (id_at ids) (walk ids t) b.back) }
 
-pub filled_compared : (ids t : List ℕ) (n i most : ℕ) (b : Bool) → i ≤ n → Within i t → b ≡ distinct n (id_at ids) → ltb 0 most ≡ b → Filled ids n t most
-filled_compared ids t n i most b l w e f = record { within = within_le i n t l w; right = f ∙ e }
+pub filled_compared : (ids t : List ℕ) (n i most : ℕ) (b : Bool) (r : Option ℕ) → i ≤ n → Within i t
+    → b ≡ distinct n (id_at ids) → r ≡ then_some b most → Filled ids n t r
+filled_compared ids t n i most b r l w d e =
+    rw e (record { within = within_le i n t l w; right = some_then b ∙ d })
+  where
+    some_then : (b : Bool) → is_some (then_some b most) ≡ b
+    some_then true = refl
+    some_then false = refl

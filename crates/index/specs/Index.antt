@@ -1,6 +1,6 @@
 -- What the contracts of the index say. An index is two arrays: the wallets' ids by their numbers, and places, each of which proposes a number,
 -- or 0 for none. The walk of an id starts at a root, by its low bits, and goes on to a branch of the wallet that it meets, by the next bits.
-use Rattle.std.specs.Prelude.{◌≡◌, Bool, true, not, cond, List, ℕ, zero, suc, ◌+◌, ◌*◌, ◌%◌, ◌/◌, ◌≤◌, ◌<◌, eqb, ltb, get_or, set, length}
+use Rattle.std.specs.Prelude.{◌≡◌, Bool, true, not, cond, List, ℕ, zero, suc, ◌+◌, ◌*◌, ◌%◌, ◌/◌, ◌≤◌, ◌<◌, eqb, ltb, get_or, set, length, Option, is_some}
 use Rattle.rules.specs.Limits.{WALLET_LEN, MAX_WALLETS, ID}
 use Rattle.rules.specs.Table.{word, distinct}
 use Rattle.rules.specs.Ledger.{row_of}
@@ -51,17 +51,16 @@ walked ids t x (suc f) p y =
 unfoldable pub walk : List ℕ → List ℕ → ℕ → ℕ
 walk ids t x = walked ids t x STEPS (x % ROOTS) (x / ROOTS)
 
--- where the walk of the id x ends: if steps are left, at a free place, and a number that has the id is met once it is put there
-pub record Seated (ids t : List ℕ) (x place left : ℕ) : Type 0 where
+-- the walk of the id x ends at a free place, and meets a number that has the id once it is put there
+pub record Seated (ids t : List ℕ) (x place : ℕ) : Type 0 where
   pub room : place < PLACES
-  pub few : left ≤ STEPS
-  pub free : 0 < left → get_or t place 0 ≡ 0
-  pub leads : 0 < left → (v : ℕ) → 0 < v → get_or ids v 0 ≡ x → walk ids (set t place v) x ≡ v
+  pub free : get_or t place 0 ≡ 0
+  pub leads : (v : ℕ) → 0 < v → get_or ids v 0 ≡ x → walk ids (set t place v) x ≡ v
 
--- the first n wallets are in the index; two of them have the same id exactly if `most` is 0
-pub record Filled (ids : List ℕ) (n : ℕ) (t : List ℕ) (most : ℕ) : Type 0 where
+-- the first n wallets are in the index; two of them have the same id exactly if `most` is none
+pub record Filled (ids : List ℕ) (n : ℕ) (t : List ℕ) (most : Option ℕ) : Type 0 where
   pub within : Within n t
-  pub right : ltb 0 most ≡ distinct n (id_at ids)
+  pub right : is_some most ≡ distinct n (id_at ids)
 
 -- a number that has the id x, or 0
 pub record Hit (ids : List ℕ) (n x r : ℕ) : Type 0 where

@@ -2,7 +2,7 @@
 // Parties choose their ids, so the index is a tree over the bits of an id and no hash table: whatever the ids, a walk ends after STEPS steps.
 #![tactic(auto)]
 
-ghost use Rattle.std.specs.Prelude.{◌≡◌, true, ◌+◌, ◌*◌, ◌≤◌, ◌<◌, length};
+ghost use Rattle.std.specs.Prelude.{◌≡◌, true, ◌+◌, ◌*◌, ◌≤◌, ◌<◌, length, IfSome};
 ghost use Rattle.rules.specs.Limits;
 ghost use Rattle.index.specs.Index;
 ghost use Rattle.rules.specs.Table.{every, distinct};
@@ -27,21 +27,13 @@ const STEPS: usize = 12;
 // How many steps `near` takes. No walk of random ids, or of ids in a row, takes more.
 const NEAR: usize = 4;
 
-fn wide(x: u16) -> usize
-    ensures { result ≡ x }
-{
-    x as usize
-}
-
 // The ids of the first n wallets, each at its number.
 pub fn copy_ids(w: &[u64], n: usize, ids: &mut [u64; NUMBERS])
     requires { (n * Limits.WALLET_LEN ≤ length w.now) × (n ≤ Limits.MAX_WALLETS) × (length ids.old ≡ Index.NUMBERS) }
     ensures { Copied w.now n ids.new }
 {
-    let mut i: usize = 0;
-    while i < n {
+    for i in 0..n {
         ids[i + 1] = w[i * WALLET_LEN + ID];
-        i += 1;
     }
 }
 
@@ -51,11 +43,7 @@ fn differs_before(ids: &[u64; NUMBERS], i: usize) -> bool
     ensures { result ≡ every i (differs ids.now i) }
 {
     let x = ids[i + 1];
-    let mut ok = true;
-    for j in 0..i {
-        ok = ok & (ids[j + 1] != x);
-    }
-    ok
+    (0..i).all(|j| ids[j + 1] != x)
 }
 
 // Whether the ids of the first n rows differ, by comparing each two.
@@ -63,71 +51,55 @@ fn differ_each(ids: &[u64; NUMBERS], n: usize) -> bool
     requires { n ≤ Limits.MAX_WALLETS }
     ensures { result ≡ distinct n (id_at ids.now) }
 {
-    let mut ok = true;
-    for i in 0..n {
-        ok = ok & differs_before(ids, i);
-    }
-    ok
+    (0..n).all(|i| differs_before(ids, i))
 }
 
-// Where the walk of an id ends: a free place, with the steps that were left there, or no steps left.
+// A free place where the walk of an id ends, and the steps that it takes to come there.
 #[derive(Clone, Copy)]
 struct Seat {
     place: usize,
-    left: usize,
+    steps: usize,
 }
 
-// The seat of the id x, where the index has n wallets.
-fn seat_for(ids: &[u64; NUMBERS], t: &[u16; PLACES], n: usize, x: u64) -> Seat
+// The seat of the id x, where the index has n wallets; none where the walk meets the id, or has no steps left.
+fn seat_for(ids: &[u64; NUMBERS], t: &[u16; PLACES], n: usize, x: u64) -> Option<Seat>
     requires { (n ≤ Limits.MAX_WALLETS) × Within n t.now }
-    ensures { Seated ids.now t.now x result.place result.left }
+    ensures { IfSome result (λ seat. Seated ids.now t.now x seat.place) }
 {
     let mut p = x as usize % ROOTS;
     let mut y = x as usize / ROOTS;
-    let mut left = STEPS;
-    while 0 < left {
-        let s = wide(t[p]);
+    for step in 0..STEPS {
+        let s = usize::from(t[p]);
         if s == 0 {
-            return Seat {
+            return Some(Seat {
                 place: p,
-                left: left,
-            };
+                steps: step + 1,
+            });
         }
         if ids[s] == x {
-            return Seat { place: p, left: 0 };
+            return None;
         }
         p = ROOTS + s * BRANCHES + y % BRANCHES;
-        y = y / BRANCHES;
-        left -= 1;
+        y /= BRANCHES;
     }
-    Seat { place: p, left: 0 }
+    None
 }
 
-// Gives each of the first n wallets its place in the index, which is empty before. The answer is 0 where two have the same id; else the most
-// steps that a walk takes. That ids differ is shown by the index itself: the walk of each id comes to its own number.
-pub fn fill(ids: &[u64; NUMBERS], t: &mut [u16; PLACES], n: usize) -> usize
+// Gives each of the first n wallets its place in the index, which is empty before. The answer is the most steps that a walk takes, or none
+// where two wallets have the same id. That ids differ is shown by the index itself: the walk of each id comes to its own number.
+pub fn fill(ids: &[u64; NUMBERS], t: &mut [u16; PLACES], n: usize) -> Option<usize>
     requires { (n ≤ Limits.MAX_WALLETS) × Within 0 t.old }
     ensures { Filled ids.now n t.new result }
 {
     let mut most: usize = 1;
-    let mut i: usize = 0;
-    while i < n {
-        let found = seat_for(ids, t, i, ids[i + 1]);
-        let left = found.left;
-        let place = found.place;
-        if left == 0 {
-            if differ_each(ids, n) {
-                return STEPS;
-            }
-            return 0;
-        }
-        i += 1;
-        t[place] = i as u16;
-        if most + left <= STEPS {
-            most = STEPS + 1 - left;
-        }
+    for i in 0..n {
+        let Some(seat) = seat_for(ids, t, i, ids[i + 1]) else {
+            return differ_each(ids, n).then_some(STEPS);
+        };
+        t[seat.place] = (i + 1) as u16;
+        most = most.max(seat.steps);
     }
-    most
+    Some(most)
 }
 
 // The number at the root of an id whose bits are y, and the one at a branch of wallet s by the bits y that are left; 0 for none.
@@ -135,14 +107,14 @@ fn root(t: &[u16; PLACES], n: usize, y: usize) -> usize
     requires { Within n t.now }
     ensures { result ≤ n }
 {
-    wide(t[y % ROOTS])
+    usize::from(t[y % ROOTS])
 }
 
 fn branch(t: &[u16; PLACES], n: usize, s: usize, y: usize) -> usize
     requires { (n ≤ Limits.MAX_WALLETS) × (s ≤ n) × Within n t.now }
     ensures { result ≤ n }
 {
-    wide(t[ROOTS + s * BRANCHES + y % BRANCHES])
+    usize::from(t[ROOTS + s * BRANCHES + y % BRANCHES])
 }
 
 // What the index proposes for the id x, by the first steps of its walk; 0 for nothing.
@@ -184,7 +156,7 @@ fn far(ids: &[u64; NUMBERS], t: &[u16; PLACES], n: usize, x: u64) -> usize
             hit = s;
         }
         s = branch(t, n, s, y);
-        y = y / BRANCHES;
+        y /= BRANCHES;
     }
     hit
 }

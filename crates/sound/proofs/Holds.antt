@@ -150,6 +150,3 @@ held_more len w n e k to number h sums a d few s x =
           sum_step k (held i),
           held_other len w e (word w WALLET_LEN i ID) k (λ z. p (sym (first_row w n from i d l (sym z)))),
         )
-
-pub held_end : (len : ℕ) (w : List ℕ) (n : ℕ) (e : List ℕ) (m k : ℕ) (sums : List ℕ) → k ≤ m → m ≤ k → Held len w n e k sums → Held len w n e m sums
-held_end len w n e m k sums l g h = let q : k ≡ m = omega arith in rw q at h

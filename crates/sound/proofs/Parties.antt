@@ -3,10 +3,9 @@ use mathlib.Core.Path.{◌≡◌, sym, ap, ◌∙◌}
 use mathlib.Core.Bool.{Bool, true, false}
 use mathlib.Core.List.{List}
 use Prim.Native.Nat.{ℕ, ◌+◌}
-use native.Mathlib.Omega.{arith}
-use lib.Dec.{eqb, ltb}
+use lib.Dec.{eqb}
 use lib.ListN.{replicate, length-replicate}
-use borrow.Author.Tests.{lt-ltb}
+use Rattle.std.specs.Prelude.{Option, None, Some, is_some}
 use Rattle.rules.specs.Limits.{WALLET_LEN, ID, LOCKED}
 use Rattle.rules.specs.Table.{word, all, every, distinct}
 use Rattle.rules.specs.Sound.{escrow_tests}
@@ -24,19 +23,19 @@ module _ (len : ℕ) (w : List ℕ) (n : ℕ) (e : List ℕ) (m : ℕ) (ids t : 
   ids_agree : Copied w n ids → distinct n (id_at ids) ≡ distinct n (λ i. word w WALLET_LEN i ID)
   ids_agree c = distinct_ext n (id_at ids) (λ i. word w WALLET_LEN i ID) c.same
 
-  pub same_ids : (most : ℕ) → Copied w n ids → Filled ids n t most → most ≡ 0 → false ≡ parties_right len w n e m
+  pub same_ids : (r : Option ℕ) → Copied w n ids → Filled ids n t r → r ≡ None → false ≡ parties_right len w n e m
   unfolding parties_right
-  same_ids most c f z =
-      let d : distinct n (λ i. word w WALLET_LEN i ID) ≡ false = sym (ids_agree c) ∙ sym f.right ∙ ap (ltb 0) z in
+  same_ids r c f z =
+      let d : distinct n (λ i. word w WALLET_LEN i ID) ≡ false = sym (ids_agree c) ∙ sym f.right ∙ ap is_some z in
       rw d
 
-  pub indexed : (most : ℕ) → Tables len w n e m → Copied w n ids → Filled ids n t most → (most ≡ 0 → ⊥) → Indexed w n ids t
-  indexed most b c f z =
+  pub indexed : (r : Option ℕ) (most : ℕ) → Tables len w n e m → Copied w n ids → Filled ids n t r → r ≡ Some most → Indexed w n ids t
+  indexed r most b c f z =
       record {
         rows = b.wallets;
         few = b.few;
         copied = c;
-        apart = sym f.right ∙ lt-ltb 0 most (omega arith);
+        apart = sym f.right ∙ ap is_some z;
         within = f.within;
       }
 

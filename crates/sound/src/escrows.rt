@@ -55,8 +55,7 @@ fn hold_all(
     requires { Tables len w.now n e.now m × Indexed w.now n ids.now t.now × Held len w.now n e.now 0 sums.old }
     ensures { HeldAll len w.now n e.now m sums.new result }
 {
-    let mut k: usize = 0;
-    while k < m {
+    for k in 0..m {
         if !escrow_right(e, len, k) {
             return false;
         }
@@ -64,8 +63,7 @@ fn hold_all(
         if from.0 == 0 {
             return false;
         }
-        sums[from.0 as usize] = sums[from.0 as usize] + held_in(e, len, k);
-        k += 1;
+        sums[from.0 as usize] += held_in(e, len, k);
     }
     true
 }
@@ -75,14 +73,7 @@ fn locked_right(w: &[u64], n: usize, sums: &[u64; NUMBERS]) -> bool
     requires { (n * Limits.WALLET_LEN ≤ length w.now) × (n ≤ Limits.MAX_WALLETS) }
     ensures { result ≡ every n (locked_is w.now sums.now) }
 {
-    let mut i: usize = 0;
-    while i < n {
-        if w[i * WALLET_LEN + LOCKED] != sums[i + 1] {
-            return false;
-        }
-        i += 1;
-    }
-    true
+    (0..n).all(|i| w[i * WALLET_LEN + LOCKED] == sums[i + 1])
 }
 
 // Whether ids differ, each escrow names two different written wallets and is right by itself, and each wallet's locked is what its open
@@ -94,10 +85,9 @@ pub fn parties_right(w: &[u64], n: usize, e: &[u64], len: usize, m: usize) -> bo
     let mut ids = [0u64; NUMBERS];
     index::copy_ids(w, n, &mut ids);
     let mut t = [0u16; PLACES];
-    let most = index::fill(&ids, &mut t, n);
-    if most == 0 {
+    let Some(most) = index::fill(&ids, &mut t, n) else {
         return false;
-    }
+    };
     let mut sums = [0u64; NUMBERS];
     if !hold_all(w, &ids, &t, n, most, e, len, m, &mut sums) {
         return false;

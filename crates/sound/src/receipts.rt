@@ -15,11 +15,7 @@ use rules::limits::{
 fn row_at(number: EscrowNumber) -> usize
     ensures { result ≡ number.0 - 1 }
 {
-    if number.0 == 0 {
-        0
-    } else {
-        number.0 as usize - 1
-    }
+    number.0.saturating_sub(1) as usize
 }
 
 // A link is 0, or a written escrow from the requester to the provider.
@@ -54,12 +50,5 @@ pub fn receipts_right(e: &[u64], len: usize, m: usize, r: &[u64], p: usize) -> b
     requires { (m * len ≤ length e.now) × (len ≤ length e.now) × (p * Limits.RECEIPT_LEN ≤ length r.now) × (Limits.ESCROW_LEN ≤ len) }
     ensures { result ≡ every p (λ i. all (receipt_tests (receipts_in len e.now m r.now) i)) }
 {
-    let mut k: usize = 0;
-    while k < p {
-        if !receipt_right(e, len, m, r, k) {
-            return false;
-        }
-        k += 1;
-    }
-    true
+    (0..p).all(|k| receipt_right(e, len, m, r, k))
 }

@@ -19,14 +19,7 @@ pub fn wallets_right(w: &[u64], n: usize) -> bool
     requires { n * Limits.WALLET_LEN ≤ length w.now }
     ensures { result ≡ every n (λ i. all (wallet_tests (wallets_in w.now n) i)) }
 {
-    let mut i: usize = 0;
-    while i < n {
-        if !wallet_right(w, i) {
-            return false;
-        }
-        i += 1;
-    }
-    true
+    (0..n).all(|i| wallet_right(w, i))
 }
 
 // Balances and locked together are the granted total, which is within its limit. What is left of it counts down, so that nothing wraps.
@@ -38,8 +31,7 @@ pub fn total_right(w: &[u64], n: usize, granted: u64) -> bool
         return false;
     }
     let mut left = granted;
-    let mut i: usize = 0;
-    while i < n {
+    for i in 0..n {
         let balance = w[i * WALLET_LEN + BALANCE];
         if left < balance {
             return false;
@@ -50,7 +42,6 @@ pub fn total_right(w: &[u64], n: usize, granted: u64) -> bool
             return false;
         }
         left -= locked;
-        i += 1;
     }
     left == 0
 }

@@ -5,4 +5,4 @@ use Rattle.index.specs.Index.{ROOTS, BRANCHES}
 use Rattle.index.proofs.branch.Goals as goal
 
 pub returns : goal.returns
-returns c = omega (arith, c.wide.ensures, c.requires.2.most (ROOTS + c.args.s * BRANCHES + c.args.y % BRANCHES))
+returns c = omega (arith, c.from.ensures, c.requires.2.most (ROOTS + c.args.s * BRANCHES + c.args.y % BRANCHES))

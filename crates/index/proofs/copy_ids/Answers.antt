@@ -2,18 +2,15 @@
 use native.Mathlib.Omega.{arith}
 use mathlib.Core.Path.{◌≡◌}
 use Rattle.index.proofs.Laws.{copied_none, copied_more}
-use borrow.Author.Rules.{rules}
 use Rattle.index.proofs.copy_ids.Goals as goal
-use Rattle.index.proofs.copy_ids.Goals.{After-loop-i}
 
 pub loop-i-init : goal.loop-i-init
-loop-i-init c = (search rules, copied_none _ _ c.requires.2)
+loop-i-init c = copied_none _ _ c.requires.2
 
 pub loop-i-preserved : goal.loop-i-preserved
-loop-i-preserved c = (search rules, copied_more _ _ _ (omega arith) c.loop-i.invariant.1)
-
-the_end : (c : After-loop-i) → c.loop-i.i ≡ c.args.n
-the_end c = omega arith
+loop-i-preserved c = copied_more _ _ _ (omega arith) c.loop-i.invariant
 
 pub returns : goal.returns
-returns c = rw (the_end c) at c.loop-i.invariant.1
+returns c =
+    let e : c.loop-i.i ≡ c.args.n = omega arith in
+    rw e at c.loop-i.invariant

@@ -5,7 +5,7 @@ use Rattle.index.proofs.far.Goals as goal
 use Rattle.index.proofs.far.Goals.{then-ids-s, else-ids-s}
 
 pub loop-init : goal.loop-init
-loop-init c = (search rules, hit_none _ _ _, search rules)
+loop-init c = (search rules, hit_none _ _ _)
 
 pub loop-preserved : goal.loop-preserved
 loop-preserved c =
@@ -15,8 +15,4 @@ loop-preserved c =
         | then-ids-s w ↦ hit_here _ _ _ v.s _ v.invariant.0 w.if-ids-s.true w.hit-is
         | else-ids-s w ↦ hit_still _ _ _ v.hit _ v.invariant.1 w.hit-is
       ],
-      search rules,
     )
-
-pub returns : goal.returns
-returns c = c.loop.invariant.1

@@ -5,4 +5,4 @@ use Rattle.index.specs.Index.{ROOTS}
 use Rattle.index.proofs.root.Goals as goal
 
 pub returns : goal.returns
-returns c = omega (arith, c.wide.ensures, c.requires.most (c.args.y % ROOTS))
+returns c = omega (arith, c.from.ensures, c.requires.most (c.args.y % ROOTS))

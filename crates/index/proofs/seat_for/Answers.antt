@@ -1,4 +1,4 @@
--- `index::seat_for` meets its contract. The loop's invariant: the walk has come to p, with `left` steps.
+-- `index::seat_for` meets its contract. The loop's invariant: the walk has come to p.
 use mathlib.Core.Path.{◌≡◌, sym, ◌∙◌}
 use lib.ListN.{get_or}
 use native.Mathlib.Omega.{arith}
@@ -6,52 +6,44 @@ use Prim.Native.Nat.{ℕ, ◌≤◌}
 use Rattle.index.proofs.Walks.{walk_start, walk_on, walk_end}
 use borrow.Author.Rules.{rules}
 use Rattle.index.proofs.seat_for.Goals as goal
-use Rattle.index.proofs.seat_for.Goals.{After-wide-s}
+use Rattle.index.proofs.seat_for.Goals.{After-from-s}
 
-pub loop-left-init : goal.loop-left-init
-loop-left-init c = (search rules, search rules, walk_start _ _ _)
+pub loop-step-init : goal.loop-step-init
+loop-step-init c = (search rules, walk_start _ _ _)
 
 -- the number that a place proposes is within n
-within : (c : After-wide-s) → c.wide-s.result ≤ c.args.n
-within c = omega (arith, c.wide-s.ensures, c.requires.1.most c.loop-left.p)
+within : (c : After-from-s) → c.from-s.result ≤ c.args.n
+within c = omega (arith, c.from-s.ensures, c.requires.1.most c.loop-step.p)
 
 pub returns-then-s-eq0 : goal.returns-then-s-eq0
 returns-then-s-eq0 c =
-    let l = c.loop-left in
+    let l = c.loop-step in
     let a = c.args in
-    let z : ◌≡◌ {A = ℕ} (get_or a.t.now l.p 0) 0 = sym c.wide-s.ensures ∙ c.if-s-eq0.true in
+    let z : ◌≡◌ {A = ℕ} (get_or a.t.now l.p 0) 0 = sym c.from-s.ensures ∙ c.if-s-eq0.true in
     record {
       room = search rules;
-      few = search rules;
-      free = λ h. z;
-      leads = λ h. walk_end a.ids.now a.t.now a.x l.left l.p l.y l.invariant.2 h (omega (arith, c.requires.1.room)) z;
+      free = z;
+      leads = walk_end a.ids.now a.t.now a.x l.step l.p l.y l.invariant.1 (omega arith) (omega (arith, c.requires.1.room)) z;
     }
 
 pub offset_bounds-ids-s : goal.offset_bounds-ids-s
-offset_bounds-ids-s c = omega (arith, within (goal.at.offset_bounds-ids-s c).After-wide-s)
+offset_bounds-ids-s c = omega (arith, within (goal.at.offset_bounds-ids-s c).After-from-s)
 
 pub bounds-ids-s : goal.bounds-ids-s
-bounds-ids-s c = omega (arith, within (goal.at.bounds-ids-s c).After-wide-s)
-
-pub returns-then-ids-s : goal.returns-then-ids-s
-returns-then-ids-s c = record { room = search rules; few = search rules; free = λ h. absurd (omega arith); leads = λ h. absurd (omega arith) }
+bounds-ids-s c = omega (arith, within (goal.at.bounds-ids-s c).After-from-s)
 
 pub overflow_mul-p : goal.overflow_mul-p
-overflow_mul-p c = omega (arith, within (goal.at.overflow_mul-p c).After-wide-s)
+overflow_mul-p c = omega (arith, within (goal.at.overflow_mul-p c).After-from-s)
 
 pub overflow_add-p : goal.overflow_add-p
-overflow_add-p c = omega (arith, within (goal.at.overflow_add-p c).After-wide-s)
+overflow_add-p c = omega (arith, within (goal.at.overflow_add-p c).After-from-s)
 
-pub overflow_add-p-in-loop-left : goal.overflow_add-p-in-loop-left
-overflow_add-p-in-loop-left c = omega (arith, within (goal.at.overflow_add-p-in-loop-left c).After-wide-s)
+pub overflow_add-p-in-loop-step : goal.overflow_add-p-in-loop-step
+overflow_add-p-in-loop-step c = omega (arith, within (goal.at.overflow_add-p-in-loop-step c).After-from-s)
 
-pub loop-left-preserved : goal.loop-left-preserved
-loop-left-preserved c =
-    let l = c.loop-left in (
-      omega (arith, within (goal.at.loop-left-preserved c).After-wide-s),
-      search rules,
-      walk_on _ _ _ l.left l.p l.y _ l.invariant.2 (search rules) c.wide-s.ensures c.if-s-eq0.false c.if-ids-s.false,
+pub loop-step-preserved : goal.loop-step-preserved
+loop-step-preserved c =
+    let l = c.loop-step in (
+      omega (arith, within (goal.at.loop-step-preserved c).After-from-s),
+      walk_on _ _ _ l.step l.p l.y _ l.invariant.1 (omega arith) c.from-s.ensures c.if-s-eq0.false c.if-ids-s.false,
     )
-
-pub returns : goal.returns
-returns c = record { room = search rules; few = search rules; free = λ h. absurd (omega arith); leads = λ h. absurd (omega arith) }

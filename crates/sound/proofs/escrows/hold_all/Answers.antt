@@ -15,7 +15,7 @@ use Rattle.sound.proofs.escrows.hold_all.Goals as goal
 use Rattle.sound.proofs.escrows.hold_all.Goals.{Else-from-eq0}
 
 pub loop-k-init : goal.loop-k-init
-loop-k-init c = (search rules, every_none _, c.requires.2)
+loop-k-init c = (every_none _, c.requires.2)
 
 pub returns-then-not-escrow_right : goal.returns-then-not-escrow_right
 returns-then-not-escrow_right c =
@@ -53,7 +53,7 @@ numbered : (c : Else-from-eq0) → c.sender-from.result.0 ≤ MAX_WALLETS
 numbered c = omega (arith, (was_sent c).numbered, sent_row _ _ _ _ _ (was_sent c), c.requires.0.few)
 
 pub offset_bounds-sums-from : goal.offset_bounds-sums-from
-offset_bounds-sums-from c = omega (arith, numbered c)
+offset_bounds-sums-from c = omega (arith, numbered (goal.at.offset_bounds-sums-from c).Else-from-eq0)
 
 pub bounds-sums-from : goal.bounds-sums-from
 bounds-sums-from c = omega (arith, numbered (goal.at.bounds-sums-from c).Else-from-eq0)
@@ -61,10 +61,7 @@ bounds-sums-from c = omega (arith, numbered (goal.at.bounds-sums-from c).Else-fr
 pub overflow_add-sums : goal.overflow_add-sums
 overflow_add-sums c =
     let l = c.loop-k in
-    omega (arith, sums_fit _ _ _ _ c.args.m l.k _ _ _ _ _ l.invariant.2 l.invariant.1 (is_right (goal.at.overflow_add-sums c).Else-from-eq0) (was_sent (goal.at.overflow_add-sums c).Else-from-eq0) (omega (arith, c.loop-k-test.true, c.requires.0.fewer)) c.held_in.ensures)
-
-pub offset_bounds-sums-from-in-loop-k : goal.offset_bounds-sums-from-in-loop-k
-offset_bounds-sums-from-in-loop-k c = omega (arith, numbered (goal.at.offset_bounds-sums-from-in-loop-k c).Else-from-eq0)
+    omega (arith, sums_fit _ _ _ _ c.args.m l.k _ _ _ _ _ l.invariant.1 l.invariant.0 (is_right (goal.at.overflow_add-sums c).Else-from-eq0) (was_sent (goal.at.overflow_add-sums c).Else-from-eq0) (omega (arith, c.loop-k-test.true, c.requires.0.fewer)) c.held_in.ensures)
 
 pub bounds-sums-from-in-loop-k : goal.bounds-sums-from-in-loop-k
 bounds-sums-from-in-loop-k c = omega (arith, numbered (goal.at.bounds-sums-from-in-loop-k c).Else-from-eq0)
@@ -73,7 +70,6 @@ pub loop-k-preserved : goal.loop-k-preserved
 loop-k-preserved c =
     let l = c.loop-k in
     let p = c.requires in (
-      search rules,
-      every_on _ _ l.invariant.1 (is_right (goal.at.loop-k-preserved c).Else-from-eq0),
-      held_more _ _ _ _ _ _ _ _ _ l.invariant.2 (indexed_apart _ _ _ _ p.1) p.0.few (was_sent (goal.at.loop-k-preserved c).Else-from-eq0) c.held_in.ensures,
+      every_on _ _ l.invariant.0 (is_right (goal.at.loop-k-preserved c).Else-from-eq0),
+      held_more _ _ _ _ _ _ _ _ _ l.invariant.1 (indexed_apart _ _ _ _ p.1) p.0.few (was_sent (goal.at.loop-k-preserved c).Else-from-eq0) c.held_in.ensures,
     )

@@ -1,5 +1,4 @@
 -- `escrows::hold_all` meets its contract. The loop's invariant: the escrows passed are right, and the sums are those over them.
-use Prim.Native.Nat.{◌-◌, ◌≤◌}
 use mathlib.Core.Path.{◌≡◌}
 use mathlib.Core.Bool.{true}
 use Rattle.rules.specs.Table.{all, every}
@@ -9,7 +8,4 @@ use Rattle.sound.proofs.escrows.hold_all.Given as goal
 
 abbrev pub invariant-loop-k : goal.invariant-loop-k
 invariant-loop-k l =
-    (l.k ≤ l.m) × (every l.k (λ i. all (escrow_tests (parties l.len l.w l.n l.e l.m) i)) ≡ true) × Held l.len l.w l.n l.e l.k l.sums
-
-abbrev pub decreases-loop-k : goal.decreases-loop-k
-decreases-loop-k l = l.m - l.k
+    (every l.k (λ i. all (escrow_tests (parties l.len l.w l.n l.e l.m) i)) ≡ true) × Held l.len l.w l.n l.e l.k l.sums

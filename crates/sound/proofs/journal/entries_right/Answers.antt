@@ -1,17 +1,11 @@
--- `journal::entries_right` meets its contract. The loop's invariant: the rows passed are right.
-use mathlib.Core.Path.{sym, ◌∙◌}
-use Rattle.rules.proofs.Counts.{every_none, every_on, every_fails, every_passed}
+-- `journal::entries_right` meets its contract: `all` answers whether the test of a row holds of every one.
+use mathlib.Core.Path.{refl}
 use borrow.Author.Rules.{rules}
+use Rattle.rules.specs.Table.{all}
+use Rattle.rules.specs.Sound.{entry_tests}
+use Rattle.sound.specs.Parts.{entries_in}
+use Rattle.index.proofs.Every.{every_below}
 use Rattle.sound.proofs.journal.entries_right.Goals as goal
 
-pub loop-k-init : goal.loop-k-init
-loop-k-init c = (search rules, every_none _)
-
-pub returns-then-not-entry_right : goal.returns-then-not-entry_right
-returns-then-not-entry_right c = every_fails _ _ _ (search rules) (sym c.entry_right.ensures ∙ c.if-not-entry_right.true)
-
-pub loop-k-preserved : goal.loop-k-preserved
-loop-k-preserved c = (search rules, every_on _ _ c.loop-k.invariant.1 (sym c.entry_right.ensures ∙ c.if-not-entry_right.false))
-
 pub returns : goal.returns
-returns c = every_passed _ _ _ c.loop-k.invariant.0 c.loop-k-test.false c.loop-k.invariant.1
+returns c = every_below _ _ _ c.args.q (λ i. all (entry_tests (entries_in c.args.j.now) i)) _ refl c.all.ensures.ran (λ x b q k. search rules)

@@ -3,14 +3,13 @@ use native.Mathlib.Omega.{arith}
 use mathlib.Core.Path.{◌≡◌}
 use Rattle.rules.proofs.Counts.{sum_none, sum_step}
 use Rattle.sound.proofs.Totals.{both, granted_more, credits_more, credits_left}
-use borrow.Author.Rules.{rules}
 use Rattle.sound.proofs.wallets.total_right.Goals as goal
 
 pub returns-then-granted-gt-MAX_GRANTED_MICRO : goal.returns-then-granted-gt-MAX_GRANTED_MICRO
 returns-then-granted-gt-MAX_GRANTED_MICRO c = granted_more _ _ _ c.if-granted-gt-MAX_GRANTED_MICRO.true
 
 pub loop-i-init : goal.loop-i-init
-loop-i-init c = (search rules, omega (arith, sum_none (both c.args.w.now)))
+loop-i-init c = omega (arith, sum_none (both c.args.w.now))
 
 pub returns-then-left-balance : goal.returns-then-left-balance
 returns-then-left-balance c = credits_more _ _ _ c.loop-i.i c.loop-i-test.true (omega arith)
@@ -19,9 +18,9 @@ pub returns-then-left-locked : goal.returns-then-left-locked
 returns-then-left-locked c = credits_more _ _ _ c.loop-i.i c.loop-i-test.true (omega arith)
 
 pub loop-i-preserved : goal.loop-i-preserved
-loop-i-preserved c = (search rules, omega (arith, sum_step c.loop-i.i (both c.args.w.now)))
+loop-i-preserved c = omega (arith, sum_step c.loop-i.i (both c.args.w.now))
 
 pub returns : goal.returns
 returns c =
     let e : c.loop-i.i ≡ c.args.n = omega arith in
-    credits_left _ _ _ _ (rw e at c.loop-i.invariant.1) c.if-granted-gt-MAX_GRANTED_MICRO.false
+    credits_left _ _ _ _ (rw e at c.loop-i.invariant) c.if-granted-gt-MAX_GRANTED_MICRO.false
