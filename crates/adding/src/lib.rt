@@ -98,10 +98,7 @@ fn receipt_turn(
     let deadline = numbered::receipt(receipts, number, ACCEPTANCE_DEADLINE);
     if sweeping::is_due(state, PENDING, deadline, time) {
         let amount = auto_accepted(edition, escrows, receipts, marks, number, time);
-        return Closed {
-            rows: 1,
-            amount: amount,
-        };
+        return Closed { rows: 1, amount };
     }
     Closed { rows: 0, amount: 0 }
 }
@@ -122,25 +119,16 @@ fn receipt_turns(
     let written = header[RECEIPTS];
     let mut rows = 0;
     let mut amount = 0;
-    let mut number = ReceiptNumber(0);
-    loop {
-        if written <= number.0 {
-            break Closed {
-                rows: rows,
-                amount: amount,
-            };
-        }
+    for row in 0..written {
         if limit <= rows {
-            break Closed {
-                rows: rows,
-                amount: amount,
-            };
+            break;
         }
-        number.0 += 1;
+        let number = ReceiptNumber(row + 1);
         let turn = receipt_turn(edition, escrows, receipts, marks, number, time);
         rows += turn.rows;
         amount += turn.amount;
     }
+    Closed { rows, amount }
 }
 
 // One escrow, likewise: its amount, if it expires.
@@ -152,10 +140,7 @@ fn escrow_turn(edition: Edition, escrows: &[u64], number: EscrowNumber, time: u6
     let deadline = numbered::escrow(edition, escrows, number, ESCROW_DEADLINE);
     if sweeping::is_due(state, IS_OPEN, deadline, time) {
         let amount = numbered::escrow(edition, escrows, number, ESCROW_AMOUNT);
-        return Closed {
-            rows: 1,
-            amount: amount,
-        };
+        return Closed { rows: 1, amount };
     }
     Closed { rows: 0, amount: 0 }
 }
@@ -169,19 +154,15 @@ fn escrow_turns(edition: Edition, header: &[u64], escrows: &[u64], time: u64, li
     let written = header[ESCROWS];
     let mut rows = 0;
     let mut amount = 0;
-    let mut number = EscrowNumber(0);
-    loop {
-        if written <= number.0 {
-            break amount;
-        }
+    for row in 0..written {
         if limit <= rows {
-            break amount;
+            break;
         }
-        number.0 += 1;
-        let turn = escrow_turn(edition, escrows, number, time);
+        let turn = escrow_turn(edition, escrows, EscrowNumber(row + 1), time);
         rows += turn.rows;
         amount += turn.amount;
     }
+    amount
 }
 
 // What a sweep adds: what its receipts release, and what expires with the room that they leave.
