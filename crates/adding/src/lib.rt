@@ -56,7 +56,7 @@ fn auto_accepted(
     edition: Edition,
     escrows: &[u64],
     receipts: &[u64],
-    marks: &mut [u8; MAX_ESCROWS],
+    marks: &mut [bool; MAX_ESCROWS],
     number: ReceiptNumber,
     time: u64,
 ) -> u64
@@ -72,11 +72,11 @@ fn auto_accepted(
         return 0;
     }
     let row = (link.0 - 1) as usize;
-    if marks[row] != 0 {
+    if marks[row] {
         return 0;
     }
     if moves::is_releasable(edition, escrows, link, time) {
-        marks[row] = 1;
+        marks[row] = true;
         return numbered::escrow(edition, escrows, link, ESCROW_AMOUNT);
     }
     0
@@ -87,7 +87,7 @@ fn receipt_turn(
     edition: Edition,
     escrows: &[u64],
     receipts: &[u64],
-    marks: &mut [u8; MAX_ESCROWS],
+    marks: &mut [bool; MAX_ESCROWS],
     number: ReceiptNumber,
     time: u64,
 ) -> Closed
@@ -109,7 +109,7 @@ fn receipt_turns(
     header: &[u64],
     escrows: &[u64],
     receipts: &[u64],
-    marks: &mut [u8; MAX_ESCROWS],
+    marks: &mut [bool; MAX_ESCROWS],
     time: u64,
     limit: u64,
 ) -> Closed
@@ -177,7 +177,7 @@ fn sweep_adds(
     requires { Sweeps edition header.now escrows.now receipts.now time }
     ensures { (K : Ledger) → let L = any K of_edition edition seeing_header header seeing_escrows escrows seeing_receipts receipts in Good L.entry → result ≡ figures 0 0 L.entry (swept time limit L.entry).tables }
 {
-    let mut marks = [0u8; MAX_ESCROWS];
+    let mut marks = [false; MAX_ESCROWS];
     let accepts = receipt_turns(edition, header, escrows, receipts, &mut marks, time, limit);
     let released = accepts.amount;
     let room = limit - accepts.rows;
