@@ -1,10 +1,10 @@
 -- The five figures of a submission that nothing refuses, by its operation: what the code may read, and that what it has read is what the
 -- definition adds.
-use mathlib.Core.Path.{◌≡◌, sym, ap, subst, ◌∙◌}
+use mathlib.Core.Path.{◌≡◌, refl, sym, ap, subst, ◌∙◌}
 use mathlib.Core.List.{List, [], ◌∷◌}
-use mathlib.Core.Bool.{true, false, not}
-use Prim.Native.Nat.{ℕ, ◌-◌, ◌<◌, ◌^◌}
-use lib.ListN.{replicate, length-replicate}
+use mathlib.Core.Bool.{Bool, true, false, not}
+use Prim.Native.Nat.{ℕ, zero, suc, ◌-◌, ◌<◌, ◌^◌}
+use lib.ListN.{get_or, replicate, length-replicate}
 use lib.Dec.{T, lit<}
 use Rattle.rules.specs.Limits.{MAX_ESCROWS, ESCROW_AMOUNT, GRANT, TRANSFER, RELEASE, REFUND, REPLY, ACCEPTS, SWEEP}
 use Rattle.rules.specs.Table.{word}
@@ -14,7 +14,6 @@ use Rattle.rules.specs.Settle.{settle, swept}
 use Rattle.rules.specs.Report.{adds_of}
 use Rattle.rules.specs.declared.Edition.{Edition}
 use Rattle.rules.specs.declared.Submission.{Submission}
-use Rattle.rules.proofs.Rows.{zeros}
 use Rattle.rules.proofs.Passed.{escrow_row, escrow_open, receipt_row}
 use Rattle.rules.proofs.Adds.{figures, adds_grant, adds_transfer, adds_release, adds_refund, adds_dispute, adds_accept, adds_sweep, adds_other}
 use Rattle.rows.specs.Numbered.{Names}
@@ -23,9 +22,14 @@ use Rattle.settling.proofs.Facts as facts
 use Rattle.adding.specs.Needs.{Links, Sweeps}
 use Rattle.adding.specs.Turns.{freed, Unmarked}
 
+no_mark : (m c : ℕ) → ◌≡◌ {A = Bool} (get_or (replicate m false) c false) false
+no_mark zero c = refl
+no_mark (suc m) zero = refl
+no_mark (suc m) (suc c) = no_mark m c
+
 -- the marks before the first receipt
-pub unmarked : Unmarked (replicate MAX_ESCROWS 0)
-unmarked = record { places = length-replicate {A = ℕ} MAX_ESCROWS 0; none = zeros MAX_ESCROWS }
+pub unmarked : Unmarked (replicate MAX_ESCROWS false)
+unmarked = record { places = length-replicate {A = Bool} MAX_ESCROWS false; none = no_mark MAX_ESCROWS }
 
 -- the operations that a figure counts
 abbrev figured : List ℕ

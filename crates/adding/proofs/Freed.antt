@@ -32,12 +32,12 @@ module _ (ed : Edition) (e r : List ℕ) (time i link : ℕ) (p : link ≡ word 
   freed_linked c amount x ne q y z = rw (← p, ne_eqb _ _ ne, ← y (ledger_of ed [] [] [] [] []), ← q) z
 
 -- a due receipt of a sweep
-module _ (ed : Edition) (e r marks : List ℕ) (time i : ℕ) where
+module _ (ed : Edition) (e r : List ℕ) (marks : List Bool) (time i : ℕ) where
   none_freed : frees_now ed e r marks time i ≡ false → (0 ≡ freed_now ed e r marks time i) × (marks ≡ marked_now ed e r marks time i)
   unfolding freed_now marked_now
   none_freed t = (
     ap (λ (d : Bool). cond d (word e ed.escrow (linked r i) ESCROW_AMOUNT) 0) (sym t),
-    ap (λ (d : Bool). cond d (set marks (linked r i) 1) marks) (sym t),
+    ap (λ (d : Bool). cond d (set marks (linked r i) true) marks) (sym t),
   )
 
   pub not_auto : (auto : ℕ) → auto ≡ word r RECEIPT_LEN i AUTO_ACCEPT → (auto ≡ 1 → ⊥)
@@ -55,7 +55,7 @@ module _ (ed : Edition) (e r marks : List ℕ) (time i : ℕ) where
     is_open = eqb (word e ed.escrow (linked r i) ESCROW_STATE) IS_OPEN
 
     abbrev unmarked : Bool
-    unmarked = eqb (get_or marks (linked r i) 0) 0
+    unmarked = not (get_or marks (linked r i) false)
 
     abbrev fresh : Bool
     fresh = leb time (word e ed.escrow (linked r i) ESCROW_DEADLINE)
@@ -68,10 +68,10 @@ module _ (ed : Edition) (e r marks : List ℕ) (time i : ℕ) where
     not_linked z = none_freed (and_none_snd auto_is _ (and_none_fst (not no_link) _ (ap not (eq-eqb _ _ (sym p ∙ z)))))
 
     -- an earlier receipt has released it
-    pub was_marked : (get_or marks (link - 1) 0 ≡ 0 → ⊥) → (0 ≡ freed_now ed e r marks time i) × (marks ≡ marked_now ed e r marks time i)
-    was_marked ne =
+    pub was_marked : get_or marks (link - 1) false ≡ true → (0 ≡ freed_now ed e r marks time i) × (marks ≡ marked_now ed e r marks time i)
+    was_marked t =
         rest_fails (and_none_fst (is_open && unmarked) fresh (and_none_snd is_open unmarked
-        (ap (λ (k : ℕ). eqb (get_or marks (k - 1) 0) 0) (sym p) ∙ ne_eqb (get_or marks (link - 1) 0) 0 ne)))
+        (ap (λ (k : ℕ). not (get_or marks (k - 1) false)) (sym p) ∙ ap not t)))
 
     middle : (x y z : Bool) → x && z ≡ false → (x && y) && z ≡ false
     middle false y z h = refl
@@ -84,8 +84,8 @@ module _ (ed : Edition) (e r marks : List ℕ) (time i : ℕ) where
     not_fresh c y z = rest_fails (middle is_open unmarked fresh (tested c y ∙ z))
 
     -- it is released, and marked
-    pub released_now : (c : Bool) (x : ℕ) (marks₁ : List ℕ) → auto ≡ 1 → link ≢ 0 → get_or marks (link - 1) 0 ≡ 0 → Tested ed e c time (link - 1) → c ≡ true
-        → x ≡ word e ed.escrow (link - 1) ESCROW_AMOUNT → marks₁ ≡ set marks (link - 1) 1
+    pub released_now : (c : Bool) (x : ℕ) (marks₁ : List Bool) → auto ≡ 1 → link ≢ 0 → get_or marks (link - 1) false ≡ false → Tested ed e c time (link - 1) → c ≡ true
+        → x ≡ word e ed.escrow (link - 1) ESCROW_AMOUNT → marks₁ ≡ set marks (link - 1) true
         → (x ≡ freed_now ed e r marks time i) × (marks₁ ≡ marked_now ed e r marks time i)
     unfolding freed_now marked_now
     released_now c x marks₁ one ne m y z q s =
@@ -93,20 +93,20 @@ module _ (ed : Edition) (e r marks : List ℕ) (time i : ℕ) where
         let t : frees_now ed e r marks time i ≡ true =
         and_intro auto_is _ (eq-eqb _ _ (sym a ∙ one)) (and_intro (not no_link) _ (ap not (ap (λ (k : ℕ). eqb k 0) (sym p) ∙ ne_eqb link 0 ne))
         (and_intro (is_open && unmarked) fresh
-        (and_intro is_open unmarked (and_fst is_open fresh both) (ap (λ (k : ℕ). eqb (get_or marks (k - 1) 0) 0) (sym p) ∙ eq-eqb _ _ m))
+        (and_intro is_open unmarked (and_fst is_open fresh both) (ap (λ (k : ℕ). not (get_or marks (k - 1) false)) (sym p) ∙ ap not m))
         (and_snd is_open fresh both))) in (
           q ∙ ap (λ (k : ℕ). word e ed.escrow (k - 1) ESCROW_AMOUNT) p ∙ ap (λ (d : Bool). cond d (word e ed.escrow (linked r i) ESCROW_AMOUNT) 0) (sym t),
-          s ∙ ap (λ (k : ℕ). set marks (k - 1) 1) p ∙ ap (λ (d : Bool). cond d (set marks (linked r i) 1) marks) (sym t),
+          s ∙ ap (λ (k : ℕ). set marks (k - 1) true) p ∙ ap (λ (d : Bool). cond d (set marks (linked r i) true) marks) (sym t),
         )
 
 -- a receipt of a sweep
-module _ (ed : Edition) (e r marks : List ℕ) (time i state deadline : ℕ) (b : Bool)
+module _ (ed : Edition) (e r : List ℕ) (marks : List Bool) (time i state deadline : ℕ) (b : Bool)
     (p : state ≡ word r RECEIPT_LEN i RECEIPT_STATE) (d : deadline ≡ word r RECEIPT_LEN i ACCEPTANCE_DEADLINE)
     (x : b ≡ (eqb state PENDING && ltb deadline time)) where
   closes_so : b ≡ closes r time i
   closes_so = x ∙ ap₂ (λ (s t : ℕ). eqb s PENDING && ltb t time) p d
 
-  pub turn_closed : (amount : ℕ) (marks₁ : List ℕ) → b ≡ true → amount ≡ freed_now ed e r marks time i → marks₁ ≡ marked_now ed e r marks time i
+  pub turn_closed : (amount : ℕ) (marks₁ : List Bool) → b ≡ true → amount ≡ freed_now ed e r marks time i → marks₁ ≡ marked_now ed e r marks time i
       → (1 ≡ closed_rows r time i) × (amount ≡ closed_amount ed e r marks time i) × (marks₁ ≡ closed_marks ed e r marks time i)
   unfolding closed_rows closed_amount closed_marks
   turn_closed amount marks₁ t q m =

@@ -30,9 +30,9 @@ use Rattle.rules.proofs.Ended.{ended_none, ended_beside, ended_then, ended_end, 
 use Rattle.adding.specs.Turns.{frees_now, freed_now, marked_now, closed_rows, closed_amount, closed_marks, Ended, Receipted}
 
 -- `number` receipts of L are passed
-pub record Laid (L : Ledger) (time : ℕ) (marks : List ℕ) (number room amount : ℕ) (S : Sweep) : Type 0 where
+pub record Laid (L : Ledger) (time : ℕ) (marks : List Bool) (number room amount : ℕ) (S : Sweep) : Type 0 where
   pub receipted : Receipted L time room amount S
-  pub states : (i : ℕ) → eqb (escrow S.tables i ESCROW_STATE) IS_OPEN ≡ (eqb (escrow L i ESCROW_STATE) IS_OPEN && eqb (get_or marks i 0) 0)
+  pub states : (i : ℕ) → eqb (escrow S.tables i ESCROW_STATE) IS_OPEN ≡ (eqb (escrow L i ESCROW_STATE) IS_OPEN && not (get_or marks i false))
   pub deadlines : (i : ℕ) → escrow S.tables i ESCROW_DEADLINE ≡ escrow L i ESCROW_DEADLINE
   pub early : (j k : ℕ) → k < RECEIPT_STATE → receipt S.tables j k ≡ receipt L j k
   pub dues : (j : ℕ) → number ≤ j → due_receipt S.tables time j ≡ due_receipt L time j
@@ -47,17 +47,17 @@ ended_start L g = record {
   expired = ended_none EXPIRED L L refl (λ i l. refl);
 }
 
-pub laid_start : (L : Ledger) (time limit : ℕ) (marks : List ℕ) → Good L → ((i : ℕ) → get_or marks i 0 ≡ 0) → Laid L time marks 0 limit 0 (sweep_start limit L)
+pub laid_start : (L : Ledger) (time limit : ℕ) (marks : List Bool) → Good L → ((i : ℕ) → get_or marks i false ≡ false) → Laid L time marks 0 limit 0 (sweep_start limit L)
 laid_start L time limit marks g none = record {
   receipted = record { room = refl; due = λ i. refl; ended = ended_start L g };
   states = λ i.
-      sym (ap (λ (k : ℕ). eqb (escrow L i ESCROW_STATE) IS_OPEN && eqb k 0) (none i) ∙ and_true (eqb (escrow L i ESCROW_STATE) IS_OPEN));
+      sym (ap (λ (k : Bool). eqb (escrow L i ESCROW_STATE) IS_OPEN && not k) (none i) ∙ and_true (eqb (escrow L i ESCROW_STATE) IS_OPEN));
   deadlines = λ i. refl;
   early = λ j k h. refl;
   dues = λ j h. refl;
 }
 
-module _ (L : Ledger) (time : ℕ) (now_right : time ≤ LAST_TIME_MS) (marks : List ℕ) (number room amount : ℕ) (S : Sweep)
+module _ (L : Ledger) (time : ℕ) (now_right : time ≤ LAST_TIME_MS) (marks : List Bool) (number room amount : ℕ) (S : Sweep)
     (good : Good L) (places : escrow_count L ≤ length marks) (l : number < receipt_count L) (a : Laid L time marks number room amount S) where
   abbrev M : Ledger
   M = S.tables
@@ -110,24 +110,24 @@ module _ (L : Ledger) (time : ℕ) (now_right : time ≤ LAST_TIME_MS) (marks : 
   m_wide : 8 ≤ M.edition.escrow
   m_wide = a.receipted.ended.kept.good.wide
 
-  states_so : (marks₁ : List ℕ) → marks₁ ≡ cond b (set marks k 1) marks
-      → (i : ℕ) → eqb (escrow N i ESCROW_STATE) IS_OPEN ≡ (eqb (escrow L i ESCROW_STATE) IS_OPEN && eqb (get_or marks₁ i 0) 0)
+  states_so : (marks₁ : List Bool) → marks₁ ≡ cond b (set marks k true) marks
+      → (i : ℕ) → eqb (escrow N i ESCROW_STATE) IS_OPEN ≡ (eqb (escrow L i ESCROW_STATE) IS_OPEN && not (get_or marks₁ i false))
   states_so marks₁ e i = go b refl (ℕ_discrete i k)
     where
-      by_marks : (c : Bool) → b ≡ c → (x : ℕ) → get_or (cond c (set marks k 1) marks) i 0 ≡ x
-          → eqb (escrow N i ESCROW_STATE) IS_OPEN ≡ (eqb (escrow L i ESCROW_STATE) IS_OPEN && eqb x 0)
-          → eqb (escrow N i ESCROW_STATE) IS_OPEN ≡ (eqb (escrow L i ESCROW_STATE) IS_OPEN && eqb (get_or marks₁ i 0) 0)
+      by_marks : (c : Bool) → b ≡ c → (x : Bool) → get_or (cond c (set marks k true) marks) i false ≡ x
+          → eqb (escrow N i ESCROW_STATE) IS_OPEN ≡ (eqb (escrow L i ESCROW_STATE) IS_OPEN && not x)
+          → eqb (escrow N i ESCROW_STATE) IS_OPEN ≡ (eqb (escrow L i ESCROW_STATE) IS_OPEN && not (get_or marks₁ i false))
       by_marks c t x q h =
-          h ∙ ap (λ (n : ℕ). eqb (escrow L i ESCROW_STATE) IS_OPEN && eqb n 0)
-          (sym (ap (λ (m : List ℕ). get_or m i 0) (e ∙ ap (λ (d : Bool). cond d (set marks k 1) marks) t) ∙ q))
+          h ∙ ap (λ (n : Bool). eqb (escrow L i ESCROW_STATE) IS_OPEN && not n)
+          (sym (ap (λ (m : List Bool). get_or m i false) (e ∙ ap (λ (d : Bool). cond d (set marks k true) marks) t) ∙ q))
 
-      go : (c : Bool) → b ≡ c → Dec (i ≡ k) → eqb (escrow N i ESCROW_STATE) IS_OPEN ≡ (eqb (escrow L i ESCROW_STATE) IS_OPEN && eqb (get_or marks₁ i 0) 0)
-      go false t d = by_marks false t (get_or marks i 0) refl (ap (λ (x : ℕ). eqb x IS_OPEN) (word_left t i ESCROW_STATE) ∙ a.states i)
+      go : (c : Bool) → b ≡ c → Dec (i ≡ k) → eqb (escrow N i ESCROW_STATE) IS_OPEN ≡ (eqb (escrow L i ESCROW_STATE) IS_OPEN && not (get_or marks₁ i false))
+      go false t d = by_marks false t (get_or marks i false) refl (ap (λ (x : ℕ). eqb x IS_OPEN) (word_left t i ESCROW_STATE) ∙ a.states i)
       go true t (no ne) =
-          by_marks true t (get_or marks i 0) (get_or-set_other marks k i 1 0 ne)
+          by_marks true t (get_or marks i false) (get_or-set_other marks k i true false ne)
           (ap (λ (x : ℕ). eqb x IS_OPEN) (word_ended t i ESCROW_STATE ∙ end_other RELEASED time 0 k M m_wide i ESCROW_STATE (lit< tt) ne) ∙ a.states i)
       go true t (yes y) =
-          by_marks true t 1 (ap (λ (j : ℕ). get_or (set marks k 1) j 0) y ∙ get_or-set_same marks k 1 0 (omega (arith, k_row t)))
+          by_marks true t true (ap (λ (j : ℕ). get_or (set marks k true) j false) y ∙ get_or-set_same marks k true false (omega (arith, k_row t)))
           (ap (λ (x : ℕ). eqb x IS_OPEN)
           (word_ended t i ESCROW_STATE ∙ ap (λ (j : ℕ). escrow (end_escrow RELEASED time 0 k M) j ESCROW_STATE) y
           ∙ end_state RELEASED time 0 k M a.receipted.ended.kept.good (row_kept ESCROWS a.receipted.ended.kept (k_row t)))
@@ -149,7 +149,7 @@ module _ (L : Ledger) (time : ℕ) (now_right : time ≤ LAST_TIME_MS) (marks : 
       go true t =
           let K : Ledger = end_escrow RELEASED time 0 k M in
           let so = and_snd (not (eqb (receipt L number RECEIPT_LINK) 0)) _ (and_snd (eqb (receipt L number AUTO_ACCEPT) 1) _ t) in
-          let open_k = a.states k ∙ and_fst (eqb (escrow L k ESCROW_STATE) IS_OPEN && eqb (get_or marks k 0) 0) _ so in
+          let open_k = a.states k ∙ and_fst (eqb (escrow L k ESCROW_STATE) IS_OPEN && not (get_or marks k false)) _ so in
           ended_beside st M K N (closes.onward.edition ∙ sym (keeps_end RELEASED time 0 k M).lengths.edition)
           (escrows_so ∙ ap (λ (d : Bool). (cond d K M).escrows) t)
           ∙ ended_end st RELEASED time 0 k M other a.receipted.ended.kept.good (row_kept ESCROWS a.receipted.ended.kept (k_row t)) open_k
@@ -173,7 +173,7 @@ module _ (L : Ledger) (time : ℕ) (now_right : time ≤ LAST_TIME_MS) (marks : 
       }
 
   -- it is due, and closed; or passed over
-  laid_closed : (marks₁ : List ℕ) (x y : ℕ) → marks₁ ≡ cond b (set marks k 1) marks → x ≡ 1 → y ≡ cond b (escrow L k ESCROW_AMOUNT) 0
+  laid_closed : (marks₁ : List Bool) (x y : ℕ) → marks₁ ≡ cond b (set marks k true) marks → x ≡ 1 → y ≡ cond b (escrow L k ESCROW_AMOUNT) 0
       → Laid L time marks₁ (number + 1) (room - x) (amount + y) (one_more S N)
   laid_closed marks₁ x y m one e =
       let leaves = leaves_due time number M m_wide in
@@ -185,21 +185,21 @@ module _ (L : Ledger) (time : ℕ) (now_right : time ≤ LAST_TIME_MS) (marks : 
         dues = λ j h. leaves.others j (omega arith) ∙ a.dues j (omega arith);
       }
 
-  laid_passed : (marks₁ : List ℕ) (x y : ℕ) → marks₁ ≡ marks → x ≡ 0 → y ≡ 0 → Laid L time marks₁ (number + 1) (room - x) (amount + y) S
+  laid_passed : (marks₁ : List Bool) (x y : ℕ) → marks₁ ≡ marks → x ≡ 0 → y ≡ 0 → Laid L time marks₁ (number + 1) (room - x) (amount + y) S
   laid_passed marks₁ x y m none e = record {
     receipted = record {
       room = omega (arith, a.receipted.room);
       due = a.receipted.due;
       ended = let z : amount ≡ amount + y = omega arith in subst (λ (n : ℕ). Ended L n 0 S.tables) z a.receipted.ended;
     };
-    states = λ i. a.states i ∙ ap (λ (t : List ℕ). eqb (escrow L i ESCROW_STATE) IS_OPEN && eqb (get_or t i 0) 0) (sym m);
+    states = λ i. a.states i ∙ ap (λ (t : List Bool). eqb (escrow L i ESCROW_STATE) IS_OPEN && not (get_or t i false)) (sym m);
     deadlines = a.deadlines;
     early = a.early;
     dues = λ j h. a.dues j (omega arith);
   }
 
   -- THE TURN of a sweep that may still close a row
-  pub laid_turn : (marks₁ : List ℕ) (x y : ℕ) → 0 < room
+  pub laid_turn : (marks₁ : List Bool) (x y : ℕ) → 0 < room
       → x ≡ closed_rows L.receipts time number
       → y ≡ closed_amount L.edition L.escrows L.receipts marks time number
       → marks₁ ≡ closed_marks L.edition L.escrows L.receipts marks time number
@@ -211,7 +211,7 @@ module _ (L : Ledger) (time : ℕ) (now_right : time ≤ LAST_TIME_MS) (marks : 
       T = Laid L time marks₁ (number + 1) (room - x) (amount + y)
 
       go : (c : Bool) → due_receipt L time number ≡ c → x ≡ cond c 1 0 → y ≡ cond c (cond b (escrow L k ESCROW_AMOUNT) 0) 0
-          → marks₁ ≡ cond c (cond b (set marks k 1) marks) marks → T (cond (ltb 0 S.room && due_receipt M time number) (one_more S N) S)
+          → marks₁ ≡ cond c (cond b (set marks k true) marks) marks → T (cond (ltb 0 S.room && due_receipt M time number) (one_more S N) S)
       go true t p q m =
           let here : (ltb 0 S.room && due_receipt M time number) ≡ true =
           and_intro _ _ (lt-ltb 0 S.room (omega (arith, a.receipted.room))) (a.dues number (le_refl number) ∙ t) in

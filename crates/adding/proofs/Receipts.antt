@@ -2,7 +2,7 @@
 -- most the largest amount, so that no sum wraps.
 use mathlib.Core.Path.{◌≡◌, refl, sym, ap, ◌∙◌, subst}
 use mathlib.Core.List.{List, []}
-use mathlib.Core.Bool.{not}
+use mathlib.Core.Bool.{Bool, true, not}
 use Prim.Native.Nat.{ℕ, ◌+◌, ◌-◌, ◌*◌, ◌<◌, ◌≤◌}
 use native.Mathlib.Omega.{arith}
 use lib.ListN.{get_or, length, set, length-set}
@@ -23,7 +23,7 @@ use Rattle.adding.specs.Turns.{linked, frees_now, freed_now, marked_now, closes,
 use Rattle.adding.proofs.Laid.{Laid, laid_start, laid_turn}
 
 -- after `number` receipts, of which `rows` are closed, and `amount` is released
-pub record SoFar (ed : Edition) (h e r : List ℕ) (time limit rows amount number : ℕ) (marks : List ℕ) : Type 0 where
+pub record SoFar (ed : Edition) (h e r : List ℕ) (time limit rows amount number : ℕ) (marks : List Bool) : Type 0 where
   pub written : number ≤ get_or h RECEIPTS 0
   pub room : rows ≤ limit
   pub small : amount ≤ number * MAX_AMOUNT_MICRO
@@ -31,7 +31,7 @@ pub record SoFar (ed : Edition) (h e r : List ℕ) (time limit rows amount numbe
   pub laid : (w j : List ℕ) → Good (ledger_of ed h w e r j)
       → Laid (ledger_of ed h w e r j) time marks number (limit - rows) amount (loop number (sweep_receipt time) (sweep_start limit (ledger_of ed h w e r j)))
 
-pub start : (ed : Edition) (h e r : List ℕ) (time limit : ℕ) (marks : List ℕ) → Unmarked marks → SoFar ed h e r time limit 0 0 0 marks
+pub start : (ed : Edition) (h e r : List ℕ) (time limit : ℕ) (marks : List Bool) → Unmarked marks → SoFar ed h e r time limit 0 0 0 marks
 start ed h e r time limit marks u = record {
   written = omega arith;
   room = omega arith;
@@ -56,7 +56,7 @@ module _ (ed : Edition) (h e r : List ℕ) (time : ℕ) (s : Sweeps ed h e r tim
         subst (Links ed r) (sym i) (record { len = s.sweeping.len; link = omega (arith, s.sweeping.small.escrows, s.sweeping.good.links number l) }),
       )
 
-  freed_small : (marks : List ℕ) (number : ℕ) → number < get_or h RECEIPTS 0 → freed_now ed e r marks time number ≤ MAX_AMOUNT_MICRO
+  freed_small : (marks : List Bool) (number : ℕ) → number < get_or h RECEIPTS 0 → freed_now ed e r marks time number ≤ MAX_AMOUNT_MICRO
   unfolding freed_now
   freed_small marks number l =
       let n : ℕ = receipt L₀ number RECEIPT_LINK in
@@ -66,25 +66,25 @@ module _ (ed : Edition) (h e r : List ℕ) (time : ℕ) (s : Sweeps ed h e r tim
       (eqb-false n 0 (not_true_false (eqb n 0) (and_fst (not (eqb n 0)) _ (and_snd (eqb (receipt L₀ number AUTO_ACCEPT) 1) _ t))))))
       (λ t. omega arith)
 
-  turn_small : (marks : List ℕ) (number y : ℕ) → number < get_or h RECEIPTS 0 → y ≡ closed_amount ed e r marks time number → y ≤ MAX_AMOUNT_MICRO
+  turn_small : (marks : List Bool) (number y : ℕ) → number < get_or h RECEIPTS 0 → y ≡ closed_amount ed e r marks time number → y ≤ MAX_AMOUNT_MICRO
   unfolding closed_amount
   turn_small marks number y l q =
       subst (λ (x : ℕ). x ≤ MAX_AMOUNT_MICRO) (sym q)
       (cond_case (λ (x : ℕ). x ≤ MAX_AMOUNT_MICRO) (closes r time number) (freed_now ed e r marks time number) 0 (λ t. freed_small marks number l) (λ t. omega arith))
 
   -- the marks have their places still
-  marks_stay : (marks marks₁ : List ℕ) (number : ℕ) → marks₁ ≡ closed_marks ed e r marks time number → length marks₁ ≡ length marks
+  marks_stay : (marks marks₁ : List Bool) (number : ℕ) → marks₁ ≡ closed_marks ed e r marks time number → length marks₁ ≡ length marks
   unfolding closed_marks marked_now
   marks_stay marks marks₁ number m =
       ap length m
-      ∙ cond_case (λ (t : List ℕ). length t ≡ length marks) (closes r time number) (marked_now ed e r marks time number) marks
-      (λ a. cond_case (λ (t : List ℕ). length t ≡ length marks) (frees_now ed e r marks time number) (set marks (linked r number) 1) marks
-      (λ b. length-set marks (linked r number) 1) (λ b. refl))
+      ∙ cond_case (λ (t : List Bool). length t ≡ length marks) (closes r time number) (marked_now ed e r marks time number) marks
+      (λ a. cond_case (λ (t : List Bool). length t ≡ length marks) (frees_now ed e r marks time number) (set marks (linked r number) true) marks
+      (λ b. length-set marks (linked r number) true) (λ b. refl))
       (λ a. refl)
 
-  module _ (limit rows amount number : ℕ) (marks : List ℕ) (far : SoFar ed h e r time limit rows amount number marks) where
+  module _ (limit rows amount number : ℕ) (marks : List Bool) (far : SoFar ed h e r time limit rows amount number marks) where
     -- the next receipt, as the code has it: by its number, which is one more
-    module _ (marks₁ : List ℕ) (x y : ℕ) (l : number < get_or h RECEIPTS 0) (m : rows < limit)
+    module _ (marks₁ : List Bool) (x y : ℕ) (l : number < get_or h RECEIPTS 0) (m : rows < limit)
         (p : x ≡ closed_rows r time (number + 1 - 1)) (q : y ≡ closed_amount ed e r marks time (number + 1 - 1))
         (t : marks₁ ≡ closed_marks ed e r marks time (number + 1 - 1)) where
       i : number + 1 - 1 ≡ number

@@ -1,6 +1,6 @@
--- A sweep laid out on the tables as they were before it. Which escrows it has released so far is kept as marks, a number for each row of
--- escrows, 0 until its escrow is released: the state of an escrow in the sweep is then known without closing anything.
-use Rattle.std.specs.Prelude.{◌≡◌, List, Bool, not, cond, ◌&&◌, ℕ, ◌-◌, get_or, set, length, eqb, ltb, leb}
+-- A sweep laid out on the tables as they were before it. Which escrows it has released so far is kept as marks, one for each row of
+-- escrows, false until its escrow is released: the state of an escrow in the sweep is then known without closing anything.
+use Rattle.std.specs.Prelude.{◌≡◌, List, Bool, true, false, not, cond, ◌&&◌, ℕ, ◌-◌, get_or, set, length, eqb, ltb, leb}
 use Rattle.rules.specs.Limits.{RECEIPT_LEN, MAX_ESCROWS, IS_OPEN, RELEASED, REFUNDED, EXPIRED, PENDING, ESCROW_AMOUNT, ESCROW_DEADLINE, ESCROW_STATE}
 use Rattle.rules.specs.Limits.{RECEIPT_LINK, ACCEPTANCE_DEADLINE, AUTO_ACCEPT, RECEIPT_STATE}
 use Rattle.rules.specs.Table.{word}
@@ -32,29 +32,29 @@ abbrev pub closes : List ℕ → ℕ → ℕ → Bool
 closes receipts time i = eqb (word receipts RECEIPT_LEN i RECEIPT_STATE) PENDING && ltb (word receipts RECEIPT_LEN i ACCEPTANCE_DEADLINE) time
 
 -- it is accepted by a sweep, and its escrow is released, if no receipt before it has done so
-abbrev pub frees_now : Edition → List ℕ → List ℕ → List ℕ → ℕ → ℕ → Bool
+abbrev pub frees_now : Edition → List ℕ → List ℕ → List Bool → ℕ → ℕ → Bool
 frees_now ed escrows receipts marks time i =
     eqb (word receipts RECEIPT_LEN i AUTO_ACCEPT) 1
     && (not (eqb (word receipts RECEIPT_LEN i RECEIPT_LINK) 0)
-    && ((eqb (word escrows ed.escrow (linked receipts i) ESCROW_STATE) IS_OPEN && eqb (get_or marks (linked receipts i) 0) 0)
+    && ((eqb (word escrows ed.escrow (linked receipts i) ESCROW_STATE) IS_OPEN && not (get_or marks (linked receipts i) false))
     && leb time (word escrows ed.escrow (linked receipts i) ESCROW_DEADLINE)))
 
-unfoldable pub freed_now : Edition → List ℕ → List ℕ → List ℕ → ℕ → ℕ → ℕ
+unfoldable pub freed_now : Edition → List ℕ → List ℕ → List Bool → ℕ → ℕ → ℕ
 freed_now ed escrows receipts marks time i =
     cond (frees_now ed escrows receipts marks time i) (word escrows ed.escrow (linked receipts i) ESCROW_AMOUNT) 0
 
 -- and the marks after it
-unfoldable pub marked_now : Edition → List ℕ → List ℕ → List ℕ → ℕ → ℕ → List ℕ
-marked_now ed escrows receipts marks time i = cond (frees_now ed escrows receipts marks time i) (set marks (linked receipts i) 1) marks
+unfoldable pub marked_now : Edition → List ℕ → List ℕ → List Bool → ℕ → ℕ → List Bool
+marked_now ed escrows receipts marks time i = cond (frees_now ed escrows receipts marks time i) (set marks (linked receipts i) true) marks
 
 -- a turn of the sweep: how many rows it closes, what it releases, and the marks after it
 unfoldable pub closed_rows : List ℕ → ℕ → ℕ → ℕ
 closed_rows receipts time i = cond (closes receipts time i) 1 0
 
-unfoldable pub closed_amount : Edition → List ℕ → List ℕ → List ℕ → ℕ → ℕ → ℕ
+unfoldable pub closed_amount : Edition → List ℕ → List ℕ → List Bool → ℕ → ℕ → ℕ
 closed_amount ed escrows receipts marks time i = cond (closes receipts time i) (freed_now ed escrows receipts marks time i) 0
 
-unfoldable pub closed_marks : Edition → List ℕ → List ℕ → List ℕ → ℕ → ℕ → List ℕ
+unfoldable pub closed_marks : Edition → List ℕ → List ℕ → List Bool → ℕ → ℕ → List Bool
 closed_marks ed escrows receipts marks time i = cond (closes receipts time i) (marked_now ed escrows receipts marks time i) marks
 
 -- the escrow in row i is due; a turn of the sweep's second loop
@@ -69,9 +69,9 @@ unfoldable pub expired_amount : Edition → List ℕ → ℕ → ℕ → ℕ
 expired_amount ed escrows time i = cond (expires ed escrows time i) (word escrows ed.escrow i ESCROW_AMOUNT) 0
 
 -- a mark for each escrow that there can be, and nothing is marked yet
-pub record Unmarked (marks : List ℕ) : Type 0 where
+pub record Unmarked (marks : List Bool) : Type 0 where
   pub places : length marks ≡ MAX_ESCROWS
-  pub none : (i : ℕ) → get_or marks i 0 ≡ 0
+  pub none : (i : ℕ) → get_or marks i false ≡ false
 
 -- M comes of L by settling; what was released on the way is r, what expired x, and nothing was refunded
 pub record Ended (L : Ledger) (r x : ℕ) (M : Ledger) : Type 0 where

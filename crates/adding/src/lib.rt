@@ -56,7 +56,7 @@ fn auto_accepted(
     edition: Edition,
     escrows: &[u64],
     receipts: &[u64],
-    marks: &mut [u8; MAX_ESCROWS],
+    marks: &mut [bool; MAX_ESCROWS],
     number: ReceiptNumber,
     time: u64,
 ) -> u64
@@ -72,11 +72,11 @@ fn auto_accepted(
         return 0;
     }
     let row = (link.0 - 1) as usize;
-    if marks[row] != 0 {
+    if marks[row] {
         return 0;
     }
     if moves::is_releasable(edition, escrows, link, time) {
-        marks[row] = 1;
+        marks[row] = true;
         return numbered::escrow(edition, escrows, link, ESCROW_AMOUNT);
     }
     0
@@ -87,7 +87,7 @@ fn receipt_turn(
     edition: Edition,
     escrows: &[u64],
     receipts: &[u64],
-    marks: &mut [u8; MAX_ESCROWS],
+    marks: &mut [bool; MAX_ESCROWS],
     number: ReceiptNumber,
     time: u64,
 ) -> Closed
@@ -98,10 +98,7 @@ fn receipt_turn(
     let deadline = numbered::receipt(receipts, number, ACCEPTANCE_DEADLINE);
     if sweeping::is_due(state, PENDING, deadline, time) {
         let amount = auto_accepted(edition, escrows, receipts, marks, number, time);
-        return Closed {
-            rows: 1,
-            amount: amount,
-        };
+        return Closed { rows: 1, amount };
     }
     Closed { rows: 0, amount: 0 }
 }
@@ -112,7 +109,7 @@ fn receipt_turns(
     header: &[u64],
     escrows: &[u64],
     receipts: &[u64],
-    marks: &mut [u8; MAX_ESCROWS],
+    marks: &mut [bool; MAX_ESCROWS],
     time: u64,
     limit: u64,
 ) -> Closed
@@ -122,25 +119,16 @@ fn receipt_turns(
     let written = header[RECEIPTS];
     let mut rows = 0;
     let mut amount = 0;
-    let mut number = ReceiptNumber(0);
-    loop {
-        if written <= number.0 {
-            break Closed {
-                rows: rows,
-                amount: amount,
-            };
-        }
+    for row in 0..written {
         if limit <= rows {
-            break Closed {
-                rows: rows,
-                amount: amount,
-            };
+            break;
         }
-        number.0 += 1;
+        let number = ReceiptNumber(row + 1);
         let turn = receipt_turn(edition, escrows, receipts, marks, number, time);
         rows += turn.rows;
         amount += turn.amount;
     }
+    Closed { rows, amount }
 }
 
 // One escrow, likewise: its amount, if it expires.
@@ -152,10 +140,7 @@ fn escrow_turn(edition: Edition, escrows: &[u64], number: EscrowNumber, time: u6
     let deadline = numbered::escrow(edition, escrows, number, ESCROW_DEADLINE);
     if sweeping::is_due(state, IS_OPEN, deadline, time) {
         let amount = numbered::escrow(edition, escrows, number, ESCROW_AMOUNT);
-        return Closed {
-            rows: 1,
-            amount: amount,
-        };
+        return Closed { rows: 1, amount };
     }
     Closed { rows: 0, amount: 0 }
 }
@@ -169,19 +154,15 @@ fn escrow_turns(edition: Edition, header: &[u64], escrows: &[u64], time: u64, li
     let written = header[ESCROWS];
     let mut rows = 0;
     let mut amount = 0;
-    let mut number = EscrowNumber(0);
-    loop {
-        if written <= number.0 {
-            break amount;
-        }
+    for row in 0..written {
         if limit <= rows {
-            break amount;
+            break;
         }
-        number.0 += 1;
-        let turn = escrow_turn(edition, escrows, number, time);
+        let turn = escrow_turn(edition, escrows, EscrowNumber(row + 1), time);
         rows += turn.rows;
         amount += turn.amount;
     }
+    amount
 }
 
 // What a sweep adds: what its receipts release, and what expires with the room that they leave.
@@ -196,7 +177,7 @@ fn sweep_adds(
     requires { Sweeps edition header.now escrows.now receipts.now time }
     ensures { (K : Ledger) → let L = any K of_edition edition seeing_header header seeing_escrows escrows seeing_receipts receipts in Good L.entry → result ≡ figures 0 0 L.entry (swept time limit L.entry).tables }
 {
-    let mut marks = [0u8; MAX_ESCROWS];
+    let mut marks = [false; MAX_ESCROWS];
     let accepts = receipt_turns(edition, header, escrows, receipts, &mut marks, time, limit);
     let released = accepts.amount;
     let room = limit - accepts.rows;

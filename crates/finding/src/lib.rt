@@ -4,6 +4,8 @@
 
 ghost use Rattle.std.specs.Prelude.{◌≡◌, ◌*◌, ◌≤◌, ◌<◌, get_or, length};
 ghost use Rattle.rules.specs.Limits;
+ghost use Rattle.rules.specs.Refusals.{one_of, signs, targets};
+ghost use Rattle.rules.specs.declared.WalletState.TheVariants.{Missing};
 ghost use Rattle.finding.specs.Parties.{look_up_if, parties_of};
 
 use rules::limits::{CAPS, CLAIM, CLOSE, FREEZE, GRANT, OPEN, TRANSFER, WALLETS};
@@ -14,6 +16,19 @@ use rules::{Submission, WalletState};
 pub struct Parties {
     pub signer: WalletState,
     pub target: WalletState,
+}
+
+// Whether an operation names the wallet of its signer, and that of its target.
+fn names_signer(op: u8) -> bool
+    ensures { result ≡ one_of signs op }
+{
+    matches!(op, TRANSFER | OPEN | CLAIM)
+}
+
+fn names_target(op: u8) -> bool
+    ensures { result ≡ one_of targets op }
+{
+    matches!(op, GRANT | TRANSFER | OPEN | CLAIM | FREEZE | CAPS | CLOSE)
 }
 
 // The wallet of an id, if it is asked for.
@@ -34,18 +49,15 @@ pub fn find_parties(header: &[u64], wallets: &[u64], s: Submission) -> Parties
     ensures { result ≡ parties_of header.now wallets.now s }
 {
     let n = header[WALLETS] as usize;
-    let signs = (s.op == TRANSFER) | ((s.op == OPEN) | (s.op == CLAIM));
-    let targets = (s.op == GRANT)
-        | ((s.op == TRANSFER)
-            | ((s.op == OPEN)
-                | ((s.op == CLAIM) | ((s.op == FREEZE) | ((s.op == CAPS) | (s.op == CLOSE))))));
-    let signer = find_if(signs, wallets, n, s.signer);
-    let target = find_if(targets, wallets, n, s.target);
+    let signer = find_if(names_signer(s.op), wallets, n, s.signer);
+    let target = find_if(names_target(s.op), wallets, n, s.target);
     Parties { signer, target }
 }
 
 // No wallets: those of a submission that is refused before any is looked for.
-pub fn nobody() -> Parties {
+pub fn nobody() -> Parties
+    ensures { result ≡ record { signer = Missing; target = Missing } }
+{
     Parties {
         signer: WalletState::Missing,
         target: WalletState::Missing,

@@ -1,23 +1,26 @@
 -- Wallets under the moves: the number that looking one up gives, a missing wallet that is made, and credits that move from one to another.
-use mathlib.Core.Path.{◌≡◌}
+use mathlib.Core.Path.{◌≡◌, sym, ◌∙◌}
 use mathlib.Core.Logic.{◌≢◌}
 use mathlib.Core.List.{List}
 use mathlib.Core.Bool.{true, false}
-use Prim.Native.Nat.{ℕ, ◌+◌, ◌-◌, ◌<◌, ◌^◌}
-use native.Mathlib.Decide.{ℕ_discrete, dec_lt}
+use Prim.Native.Nat.{ℕ, ◌+◌, ◌-◌, ◌<◌}
 use native.Mathlib.Omega.{arith}
-use lib.ListN.{length, get_or, set}
-use lib.Seq.{get_or-set_same, get_or-set_other, set_out}
+use lib.ListN.{get_or, set}
 use lib.Dec.{ltb}
 use borrow.Author.Tests.{ltb-false}
 use Rattle.rules.specs.Limits.{WALLET_LEN, WALLETS, ID}
-use Rattle.rules.specs.Table.{word, put, put_row}
+use Rattle.rules.specs.Table.{word, put_row}
 use Rattle.rules.specs.Ledger.{Ledger, row_of, put_head, put_wallet, new_wallet}
 use Rattle.rules.specs.Settle.{blank_wallet, ensure_wallet, raise, lower}
+use Rattle.rules.specs.Wallets.{look_up}
+use Rattle.rules.specs.declared.WalletNumber.{WalletNumber}
+use Rattle.rules.specs.declared.WalletState.{WalletState}
+use Rattle.rules.specs.declared.WalletState.TheVariants.{Missing, Live, Closed}
+use Rattle.rules.proofs.Wallets.{look_says}
 use Rattle.rules.proofs.Accounts.{row_le, row_put}
 use Rattle.rules.proofs.UpTo.{up_to_wallets}
 use Rattle.rows.specs.Numbered.{Names}
-use Rattle.moves.specs.Needs.{Counted, Moves, row_in, more, less}
+use Rattle.moves.specs.Needs.{Counted, row_in, more, less}
 
 -- the number of a counted wallet, or of the next one: it is one more than the row, and names it
 pub row_at : (h w : List ℕ) (id number : ℕ) → number ≡ row_in h w id + 1 → number - 1 ≡ row_in h w id
@@ -46,24 +49,27 @@ ensured_new K h w h' w' id l p q = rw (l, p, q)
 pub next_row : (w : List ℕ) (n id : ℕ) → ltb (row_of w n id) n ≡ false → n + 1 ≡ row_of w n id + 1
 next_row w n id l = omega (arith, ltb-false (row_of w n id) n l, row_le w n id)
 
--- what one wallet has less does not make another wrap, nor itself
-set_fits : (w : List ℕ) (i v j amount : ℕ) → get_or w j 0 + amount < 2 ^ 64 → v + amount < 2 ^ 64 → get_or (set w i v) j 0 + amount < 2 ^ 64
-set_fits w i v j amount old new = go (ℕ_discrete j i) (dec_lt i (length w))
-  where
-    go : Dec (j ≡ i) → Dec (i < length w) → get_or (set w i v) j 0 + amount < 2 ^ 64
-    go (no e) d = rw (get_or-set_other w i j v 0 e) old
-    go (yes e) (yes h) = rw (e, get_or-set_same w i v 0 h) new
-    go (yes e) (no h) = rw (set_out w i v (omega (arith, h))) old
+-- the number that looking a wallet up gives, by what is found: a missing one is looked for behind the last row
+module _ (w : List ℕ) (n id : ℕ) (x : WalletState) (e : x ≡ look_up w n id) where
+  pub number_missing : x ≡ Missing → n + 1 ≡ row_of w n id + 1
+  number_missing f = next_row w n id (look_says w n id Missing (sym f ∙ e))
 
-pub can_raise :
-    (w w₁ : List ℕ) (from k to j amount had : ℕ)
-    → Moves w from k to j amount
-    → had ≡ word w WALLET_LEN (from - 1) k
-    → had < 2 ^ 64
-    → w₁ ≡ put w WALLET_LEN (from - 1) k (had - amount)
-    → Names to × (j < 2 ^ 16) × (word w₁ WALLET_LEN (to - 1) j + amount < 2 ^ 64)
-can_raise w w₁ from k to j amount had m x small y =
-    (m.to_names, m.to_word, rw y (set_fits w _ (had - amount) _ amount m.fits (omega (arith, m.enough, x, small))))
+  pub number_live : (k : WalletNumber) → x ≡ Live k → k.0 ≡ row_of w n id + 1
+  number_live k f = (look_says w n id (Live k) (sym f ∙ e)).2
+
+  pub number_closed : (k : WalletNumber) → x ≡ Closed k → k.0 ≡ row_of w n id + 1
+  number_closed k f = (look_says w n id (Closed k) (sym f ∙ e)).2
+
+-- and the tables of one that is there stay as they are
+module _ (K : Ledger) (h w : List ℕ) (id : ℕ) (x : WalletState) (k : WalletNumber) (e : x ≡ look_up w (get_or h WALLETS 0) id) where
+  pub ensured_live : x ≡ Live k → up_to_wallets K h w ≡ ensure_wallet id (up_to_wallets K h w)
+  ensured_live f = ensured_found K h w id (look_says w (get_or h WALLETS 0) id (Live k) (sym f ∙ e)).0
+
+  pub ensured_closed : x ≡ Closed k → up_to_wallets K h w ≡ ensure_wallet id (up_to_wallets K h w)
+  ensured_closed f = ensured_found K h w id (look_says w (get_or h WALLETS 0) id (Closed k) (sym f ∙ e)).0
+
+-- what is known of a wallet that is looked up
+pub ruleset looked_up = (number_missing, number_live, number_closed, ensured_live, ensured_closed)
 
 -- CREDITS MOVE: less in the one wallet and more in the other, as the definitions look them up; neither is somewhere else afterwards
 pub moved :

@@ -59,6 +59,7 @@ pub fn move_credits(
 }
 
 // The wallet of an id. A missing one is made: zeros and the usual caps. A closed one is not missing, and gets no second row.
+#[tactic(auto, using(crate::proofs::Wallets::looked_up))]
 pub fn ensure_wallet(header: &mut [u64], wallets: &mut [u64], id: u64) -> WalletNumber
     requires { Counted header.old wallets.old }
     ensures { (result.0 ≡ row_in header.old wallets.old id + 1) × ((K : Ledger) → let L = any K with_header header with_wallets wallets in L.exit ≡ ensure_wallet id L.entry) }
@@ -76,13 +77,13 @@ pub fn ensure_wallet(header: &mut [u64], wallets: &mut [u64], id: u64) -> Wallet
             );
             WalletNumber(made)
         },
-        WalletState::Live(wallet) => wallet,
-        WalletState::Closed(wallet) => wallet,
+        WalletState::Live(wallet) | WalletState::Closed(wallet) => wallet,
     }
 }
 
 // The wallet of a party to an escrow, live or closed: a sound ledger does not ask a closed one to be empty, so what ends treats its row as any other.
 // A sound ledger has it; where it is missing, the definitions look behind the last row.
+#[tactic(auto, using(crate::proofs::Wallets::looked_up))]
 fn party(wallets: &[u64], written: usize, id: u64) -> WalletNumber
     requires { written * Limits.WALLET_LEN ≤ length wallets.now }
     ensures { result.0 ≡ row_of wallets.now written id + 1 }
@@ -90,8 +91,7 @@ fn party(wallets: &[u64], written: usize, id: u64) -> WalletNumber
     let found = numbered::find_wallet(wallets, written, id);
     match found {
         WalletState::Missing => WalletNumber(written as u64 + 1),
-        WalletState::Live(number) => number,
-        WalletState::Closed(number) => number,
+        WalletState::Live(number) | WalletState::Closed(number) => number,
     }
 }
 

@@ -37,16 +37,13 @@ pub fn transfer(header: &mut [u64], wallets: &mut [u64], s: Submission) -> u64
     ensures { (K : Ledger) → let L = any K with_header header with_wallets wallets in done result L.exit ≡ transfer s L.entry }
 {
     let found = numbered::find_wallet(wallets, header[WALLETS] as usize, s.signer);
-    match found {
-        WalletState::Live(signer) => {
-            let target = moves::ensure_wallet(header, wallets, s.target);
-            moves::move_credits(wallets, signer, BALANCE, target, BALANCE, s.amount);
-            0
-        },
-        // 13 and 43 refuse these
-        WalletState::Missing => 0,
-        WalletState::Closed(_) => 0,
-    }
+    // 13 and 43 refuse a signer who is missing or closed
+    let WalletState::Live(signer) = found else {
+        return 0;
+    };
+    let target = moves::ensure_wallet(header, wallets, s.target);
+    moves::move_credits(wallets, signer, BALANCE, target, BALANCE, s.amount);
+    0
 }
 
 // Open moves balance to locked; the word is the escrow's number.
@@ -61,22 +58,19 @@ pub fn open_escrow(
     ensures { (K : Ledger) → let L = any K of_edition edition with_header header with_wallets wallets with_escrows escrows in done result L.exit ≡ open_escrow s L.entry }
 {
     let found = numbered::find_wallet(wallets, header[WALLETS] as usize, s.signer);
-    match found {
-        WalletState::Live(signer) => {
-            moves::ensure_wallet(header, wallets, s.target);
-            moves::move_credits(wallets, signer, BALANCE, signer, LOCKED, s.amount);
-            moves::append(
-                header,
-                escrows,
-                edition.escrow,
-                ESCROWS,
-                &[s.signer, s.target, s.amount, s.until, IS_OPEN, s.now, 0, 0],
-            )
-        },
-        // 13 and 43 refuse these
-        WalletState::Missing => 0,
-        WalletState::Closed(_) => 0,
-    }
+    // 13 and 43 refuse a signer who is missing or closed
+    let WalletState::Live(signer) = found else {
+        return 0;
+    };
+    moves::ensure_wallet(header, wallets, s.target);
+    moves::move_credits(wallets, signer, BALANCE, signer, LOCKED, s.amount);
+    moves::append(
+        header,
+        escrows,
+        edition.escrow,
+        ESCROWS,
+        &[s.signer, s.target, s.amount, s.until, IS_OPEN, s.now, 0, 0],
+    )
 }
 
 // Release and refund end the escrow that the target names, in the state that is given: release pays the recipient, refund the sender.
@@ -102,7 +96,7 @@ pub fn close_escrow(
 fn auto_or_freeze(flags: u8) -> u64
     ensures { result ≡ bit Limits.AUTO_OR_FREEZE flags }
 {
-    (flags / AUTO_OR_FREEZE % 2) as u64
+    u64::from(flags / AUTO_OR_FREEZE % 2)
 }
 
 // Claim's word is the receipt's number.
@@ -180,15 +174,12 @@ pub fn freeze(header: &mut [u64], wallets: &mut [u64], s: Submission) -> u64
         return 0;
     }
     let found = numbered::find_wallet(wallets, header[WALLETS] as usize, s.target);
-    match found {
-        WalletState::Live(target) => {
-            numbered::set_wallet(wallets, target, FROZEN, frozen);
-            0
-        },
-        // 16 and 43 refuse these: a closed wallet is not opened again
-        WalletState::Missing => 0,
-        WalletState::Closed(_) => 0,
-    }
+    // 16 and 43 refuse a target that is missing or closed: a closed wallet is not opened again
+    let WalletState::Live(target) = found else {
+        return 0;
+    };
+    numbered::set_wallet(wallets, target, FROZEN, frozen);
+    0
 }
 
 // Caps sets both caps.
@@ -197,16 +188,13 @@ pub fn caps(header: &[u64], wallets: &mut [u64], s: Submission) -> u64
     ensures { (K : Ledger) → let L = any K seeing_header header with_wallets wallets in done result L.exit ≡ caps s L.entry }
 {
     let found = numbered::find_wallet(wallets, header[WALLETS] as usize, s.target);
-    match found {
-        WalletState::Live(target) => {
-            numbered::set_wallet(wallets, target, TX_CAP, s.amount);
-            numbered::set_wallet(wallets, target, DAILY_CAP, s.link);
-            0
-        },
-        // 16 and 43 refuse these
-        WalletState::Missing => 0,
-        WalletState::Closed(_) => 0,
-    }
+    // 16 and 43 refuse a target that is missing or closed
+    let WalletState::Live(target) = found else {
+        return 0;
+    };
+    numbered::set_wallet(wallets, target, TX_CAP, s.amount);
+    numbered::set_wallet(wallets, target, DAILY_CAP, s.link);
+    0
 }
 
 // Close sets the wallet's frozen word to 2, for good.
@@ -215,13 +203,10 @@ pub fn close(header: &[u64], wallets: &mut [u64], s: Submission) -> u64
     ensures { (K : Ledger) → let L = any K seeing_header header with_wallets wallets in done result L.exit ≡ close s L.entry }
 {
     let found = numbered::find_wallet(wallets, header[WALLETS] as usize, s.target);
-    match found {
-        WalletState::Live(target) => {
-            numbered::set_wallet(wallets, target, FROZEN, IS_CLOSED);
-            0
-        },
-        // 16 and 43 refuse these
-        WalletState::Missing => 0,
-        WalletState::Closed(_) => 0,
-    }
+    // 16 and 43 refuse a target that is missing or closed
+    let WalletState::Live(target) = found else {
+        return 0;
+    };
+    numbered::set_wallet(wallets, target, FROZEN, IS_CLOSED);
+    0
 }

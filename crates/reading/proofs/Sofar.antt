@@ -1,22 +1,23 @@
 -- The rows read so far, the newest first. All n rows are right just if the rows still to be read are and no time was too late; what is seen and
 -- counted in n rows is what is seen and counted in those, or was found.
-use mathlib.Core.Path.{◌≡◌, refl, sym, ap, ◌∙◌}
-use mathlib.Core.Bool.{Bool, true, false, not, cond, ◌&&◌, ◌||◌, and-true, and-false, or-false}
+use mathlib.Core.Path.{◌≡◌, refl, sym, ap, ◌∙◌, subst}
+use mathlib.Core.Bool.{Bool, true, false, not, cond, ◌&&◌, ◌||◌, and-true, and-false}
 use mathlib.Core.List.{List}
-use Prim.Native.Nat.{ℕ, ◌+◌, ◌-◌, ◌*◌, ◌^◌, ◌≤◌, ◌<◌}
-use native.Mathlib.Nat.{le_refl, zero-add}
+use Prim.Native.Nat.{ℕ, ◌+◌, ◌-◌, ◌*◌, ◌≤◌, ◌<◌}
+use native.Mathlib.Nat.{zero-add}
 use native.Mathlib.Numerals.{add-one}
 use native.Mathlib.Omega.{arith}
 use lib.Dec.{eqb, ltb, leb}
 use lib.Bits.{bit_or}
-use lib.ListN.{get_or, length}
+use lib.ListN.{get_or}
 use borrow.Author.Tests.{ltb-false, lt-ltb, le-leb, lt-leb}
-use Rattle.rules.specs.Limits.{JOURNAL_LEN, MAX_ENTRIES, MAX_AMOUNT_MICRO, LAST_TIME_MS, DAY_MS, TRANSFER, OPEN, SIGNER, NONCE, OPERATION, ENTRY_AMOUNT, SETTLED_AT}
+use Rattle.rules.specs.Limits.{JOURNAL_LEN, MAX_AMOUNT_MICRO, LAST_TIME_MS, DAY_MS, TRANSFER, OPEN, SIGNER, NONCE, OPERATION, ENTRY_AMOUNT, SETTLED_AT}
 use Rattle.rules.specs.Table.{word, all, every, some, sum}
 use Rattle.rules.specs.Sound.{time, entry_tests}
 use Rattle.rules.specs.Refusals.{seen_in, counts, counted_of}
 use Rattle.rules.proofs.Bools.{and_none_fst, and_none_snd, or_none_snd}
 use Rattle.rules.proofs.Counts.{every_fails}
+use Rattle.std.specs.Prelude.{Some, None}
 use Rattle.reading.specs.Looks.{entries_in, looked}
 use Rattle.reading.proofs.Row.{fails, amount_is, part_is, recent_is, times_are}
 
@@ -24,28 +25,13 @@ use Rattle.reading.proofs.Row.{fails, amount_is, part_is, recent_is, times_are}
 abbrev right : List ℕ → ℕ → Bool
 right j i = all (entry_tests (entries_in j) i)
 
-pub record Sofar (j : List ℕ) (n signer nonce clock times found spent at : ℕ) : Type 0 where
-  -- the rows before this one, which starts at the place, are still to be read
-  pub row : ℕ
-  pub place : at ≡ row * JOURNAL_LEN
+-- the rows before this one are still to be read
+pub record Sofar (j : List ℕ) (n signer nonce clock times found spent row : ℕ) : Type 0 where
   pub within : row ≤ n
   pub rights : every n (right j) ≡ (every row (right j) && time times)
   pub uses : seen_in j n signer nonce ≡ (seen_in j row signer nonce || ltb 0 found)
   pub spends : counted_of j n signer clock ≡ counted_of j row signer clock + spent
   pub most : spent + row * MAX_AMOUNT_MICRO ≤ n * MAX_AMOUNT_MICRO
-
-module _ (j : List ℕ) (n signer nonce clock : ℕ) where
-  pub begins : Sofar j n signer nonce clock 0 0 0 (n * JOURNAL_LEN)
-  begins =
-      record {
-        row = n;
-        place = refl;
-        within = le_refl n;
-        rights = sym (and-true _);
-        uses = sym (or-false _);
-        spends = omega arith;
-        most = omega arith;
-      }
 
 -- the newest of i rows
 module _ (i : ℕ) (h : 0 < i) where
@@ -127,119 +113,93 @@ part_at j signer clock k since amount d p =
     recent = leb clock (word j JOURNAL_LEN k SETTLED_AT + DAY_MS)
 
 -- nothing is said of rows that are not right
-pub said_none : (r used : Bool) (spent : ℕ) → r ≡ false → record { right = false; used = false; spent = 0 } ≡ looked r used spent
+pub said_none : (r used : Bool) (spent : ℕ) → r ≡ false → None ≡ looked r used spent
 unfolding looked
 said_none r used spent e = rw e
 
 said_all : (r used used' : Bool) (spent spent' : ℕ) → r ≡ true → used ≡ used' → spent ≡ spent'
-    → record { right = true; used = used'; spent = spent' } ≡ looked r used spent
+    → Some (record { used = used'; spent = spent' }) ≡ looked r used spent
 unfolding looked
 said_all r used used' spent spent' e f g = rw (e, f, g)
 
-module _ (j : List ℕ) (n signer nonce clock times found spent at : ℕ) (s : Sofar j n signer nonce clock times found spent at) where
-  -- the rows that are left, and the newest of them
-  abbrev i : ℕ
-  i = s.row
-
+-- i rows are left, and k is the newest of them
+module _ (j : List ℕ) (n signer nonce clock times found spent i : ℕ) (s : Sofar j n signer nonce clock times found spent i) where
   abbrev k : ℕ
   k = i - 1
 
-  pub sum_fits : n ≤ MAX_ENTRIES → spent < 2 ^ 64
-  sum_fits few = omega (arith, s.most)
+  abbrev at : ℕ
+  at = k * JOURNAL_LEN
 
-  module _ (go : 0 < at) where
-    left : 0 < i
-    left = omega (arith, s.place)
-
-    start : at - JOURNAL_LEN ≡ k * JOURNAL_LEN
-    start = omega (arith, s.place)
-
-    pub row_long : JOURNAL_LEN ≤ at
-    row_long = omega (arith, s.place)
-
-    pub row_fits : n * JOURNAL_LEN ≤ length j → at - JOURNAL_LEN + JOURNAL_LEN ≤ length j
-    row_fits fit = omega (arith, s.place, s.within)
-
-    module _ (shown amount : ℕ) (p : amount ≡ paid j (at - JOURNAL_LEN) 0) (q : shown ≡ paid j (at - JOURNAL_LEN) n) where
+  module _ (left : 0 < i) where
+    module _ (shown amount : ℕ) (p : amount ≡ paid j at 0) (q : shown ≡ paid j at n) where
       -- the row is right just if its time is and the reader's test lets it pass
-      row_is : right j k ≡ (time (settled j (k * JOURNAL_LEN)) && not (fails shown amount))
+      row_is : right j k ≡ (time (settled j at) && not (fails shown amount))
       row_is =
-          ap (λ b. time (settled j (k * JOURNAL_LEN)) && b)
+          ap (λ b. time (settled j at) && b)
           (amount_is (eqb (word j JOURNAL_LEN k OPERATION) TRANSFER || eqb (word j JOURNAL_LEN k OPERATION) OPEN) (word j JOURNAL_LEN k ENTRY_AMOUNT) n shown amount
-          (omega (arith, s.within, left))
-          (q ∙ ap (λ (x : ℕ). paid j x n) start)
-          (p ∙ ap (λ (x : ℕ). paid j x 0) start))
+          (omega (arith, s.within, left)) q p)
 
-      pub wrong_row : (used : Bool) (sum : ℕ) → fails shown amount ≡ true
-          → record { right = false; used = false; spent = 0 } ≡ looked (every n (right j)) used sum
-      wrong_row used sum f =
-          let r : right j k ≡ false = row_is ∙ and_none_snd (time (settled j (k * JOURNAL_LEN))) (not (fails shown amount)) (rw f) in
-          said_none (every n (right j)) used sum
+      pub wrong_row : (used : Bool) (total : ℕ) → fails shown amount ≡ true → None ≡ looked (every n (right j)) used total
+      wrong_row used total f =
+          let r : right j k ≡ false = row_is ∙ and_none_snd (time (settled j at)) (not (fails shown amount)) (rw f) in
+          said_none (every n (right j)) used total
           (s.rights ∙ and_none_fst (every i (right j)) (time times) (sym (every_fails i k (right j) (omega (arith, left)) r)))
 
       pub next : (since added hit : ℕ) (used : Bool) → fails shown amount ≡ false
           → since ≡ clock - DAY_MS
-          → used ≡ has j (at - JOURNAL_LEN) signer nonce
+          → used ≡ has j at signer nonce
           → hit ≡ cond used n found
-          → added ≡ picked j (at - JOURNAL_LEN) signer since amount
-          → Sofar j n signer nonce clock (bit_or times (settled j (at - JOURNAL_LEN))) hit (spent + added) (at - JOURNAL_LEN)
+          → added ≡ picked j at signer since amount
+          → Sofar j n signer nonce clock (bit_or times (settled j at)) hit (spent + added) k
       next since added hit used f d u m a =
           record {
-            row = k;
-            place = start;
             within = omega (arith, s.within);
             rights =
                 s.rights
                 ∙ ap (λ b. b && time times) (every_newest i left (right j) ∙ ap (λ b. every k (right j) && b) timed)
-                ∙ swap (every k (right j)) (time (settled j (at - JOURNAL_LEN))) (time times)
-                ∙ ap (λ b. every k (right j) && b) (sym (times_are times (settled j (at - JOURNAL_LEN))));
+                ∙ swap (every k (right j)) (time (settled j at)) (time times)
+                ∙ ap (λ b. every k (right j) && b) (sym (times_are times (settled j at)));
             uses =
                 s.uses
-                ∙ ap (λ b. b || ltb 0 found) (seen_newest j signer nonce i left ∙ ap (λ b. seen_in j k signer nonce || b) (sym there))
+                ∙ ap (λ b. b || ltb 0 found) (seen_newest j signer nonce i left ∙ ap (λ b. seen_in j k signer nonce || b) (sym u))
                 ∙ marked (seen_in j k signer nonce) used n found (omega (arith, s.within, left))
                 ∙ ap (λ (x : ℕ). seen_in j k signer nonce || ltb 0 x) (sym m);
             spends = omega (arith, s.spends, counted_newest j signer clock i left, adds);
             most = omega (arith, s.most, left, least);
           }
         where
-          timed : right j k ≡ time (settled j (at - JOURNAL_LEN))
-          timed =
-              row_is ∙ ap (λ b. time (settled j (k * JOURNAL_LEN)) && not b) f ∙ and-true _ ∙ ap (λ (x : ℕ). time (settled j x)) (sym start)
-
-          there : used ≡ has j (k * JOURNAL_LEN) signer nonce
-          there = u ∙ ap (λ (x : ℕ). has j x signer nonce) start
+          timed : right j k ≡ time (settled j at)
+          timed = row_is ∙ ap (λ b. time (settled j at) && not b) f ∙ and-true _
 
           adds : added ≡ part j signer clock k
-          adds =
-              a ∙ ap (λ (x : ℕ). picked j x signer since amount) start
-              ∙ part_at j signer clock k since amount d (p ∙ ap (λ (x : ℕ). paid j x 0) start)
+          adds = a ∙ part_at j signer clock k since amount d p
 
           least : added ≤ MAX_AMOUNT_MICRO
           least =
               rw a
-              (chosen_most (eqb (get_or j (at - JOURNAL_LEN + SIGNER) 0) signer && leb since (settled j (at - JOURNAL_LEN))) amount MAX_AMOUNT_MICRO
+              (chosen_most (eqb (get_or j (at + SIGNER) 0) signer && leb since (settled j at)) amount MAX_AMOUNT_MICRO
               (ltb-false MAX_AMOUNT_MICRO amount (or_none_snd (eqb shown 0) (ltb MAX_AMOUNT_MICRO amount) f)))
 
-  module _ (stop : at ≤ 0) where
-    none : i ≡ 0
-    none = omega (arith, s.place)
+-- no row is left
+module _ (j : List ℕ) (n signer nonce clock times found spent i : ℕ) (s : Sofar j n signer nonce clock times found spent i) (stop : i ≤ 0) where
+  none : Sofar j n signer nonce clock times found spent 0
+  none = let e : i ≡ 0 = omega arith in subst (Sofar j n signer nonce clock times found spent) e s
 
-    rights_all : every n (right j) ≡ time times
-    unfolding every
-    rights_all = s.rights ∙ ap (λ (m : ℕ). every m (right j) && time times) none
+  rights_all : every n (right j) ≡ time times
+  unfolding every
+  rights_all = none.rights
 
-    uses_all : seen_in j n signer nonce ≡ ltb 0 found
-    unfolding seen_in some
-    uses_all = s.uses ∙ ap (λ (m : ℕ). seen_in j m signer nonce || ltb 0 found) none
+  uses_all : seen_in j n signer nonce ≡ ltb 0 found
+  unfolding seen_in some
+  uses_all = none.uses
 
-    spends_all : counted_of j n signer clock ≡ spent
-    unfolding counted_of sum
-    spends_all = s.spends ∙ ap (λ (m : ℕ). counted_of j m signer clock + spent) none ∙ zero-add spent
+  spends_all : counted_of j n signer clock ≡ spent
+  unfolding counted_of sum
+  spends_all = none.spends ∙ zero-add spent
 
-    pub late : (used : Bool) (sum : ℕ) → LAST_TIME_MS < times
-        → record { right = false; used = false; spent = 0 } ≡ looked (every n (right j)) used sum
-    late used sum l = said_none (every n (right j)) used sum (rights_all ∙ lt-leb times LAST_TIME_MS l)
+  pub late : (used : Bool) (total : ℕ) → LAST_TIME_MS < times → None ≡ looked (every n (right j)) used total
+  late used total l = said_none (every n (right j)) used total (rights_all ∙ lt-leb times LAST_TIME_MS l)
 
-    pub in_time : times ≤ LAST_TIME_MS
-        → record { right = true; used = ltb 0 found; spent = spent } ≡ looked (every n (right j)) (seen_in j n signer nonce) (counted_of j n signer clock)
-    in_time l = said_all _ _ _ _ _ (rights_all ∙ le-leb times LAST_TIME_MS l) uses_all spends_all
+  pub in_time : times ≤ LAST_TIME_MS
+      → Some (record { used = ltb 0 found; spent = spent }) ≡ looked (every n (right j)) (seen_in j n signer nonce) (counted_of j n signer clock)
+  in_time l = said_all _ _ _ _ _ (rights_all ∙ le-leb times LAST_TIME_MS l) uses_all spends_all

@@ -1,5 +1,5 @@
 -- What one reading of the journal says.
-use Rattle.std.specs.Prelude.{Bool, true, false, cond, List, [], ℕ}
+use Rattle.std.specs.Prelude.{Bool, cond, Option, Some, None, List, [], ℕ}
 use Rattle.rules.specs.Ledger.{Ledger, ledger}
 use Rattle.reading.specs.declared.Looked.{Looked}
 
@@ -8,6 +8,5 @@ abbrev pub entries_in : List ℕ → Ledger
 entries_in j = ledger [] [] [] [] j
 
 -- of right rows what was found in them; of others nothing
-unfoldable pub looked : Bool → Bool → ℕ → Looked
-looked right used spent =
-    cond right (record { right = true; used = used; spent = spent }) (record { right = false; used = false; spent = 0 })
+unfoldable pub looked : Bool → Bool → ℕ → Option Looked
+looked right used spent = cond right (Some (record { used = used; spent = spent })) None

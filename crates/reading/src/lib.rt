@@ -4,7 +4,7 @@
 // it knows nothing of.
 #![tactic(auto)]
 
-ghost use Rattle.std.specs.Prelude.{◌≡◌, false, cond, ◌&&◌, ◌||◌, ◌+◌, ◌-◌, ◌*◌, ◌≤◌, eqb, leb, get_or, length};
+ghost use Rattle.std.specs.Prelude.{◌≡◌, cond, ◌&&◌, ◌||◌, ◌+◌, ◌-◌, ◌*◌, ◌≤◌, eqb, leb, get_or, length};
 ghost use Rattle.rules.specs.Limits;
 ghost use Rattle.rules.specs.Table.{all, every};
 ghost use Rattle.rules.specs.Sound.{entry_tests};
@@ -12,39 +12,15 @@ ghost use Rattle.rules.specs.Refusals.{seen_in, counted_of};
 ghost use Rattle.reading.specs.Looks.{entries_in, looked};
 
 use rules::limits::{
-    DAY_MS, ENTRY_AMOUNT, JOURNAL_LEN, LAST_TIME_MS, MAX_AMOUNT_MICRO, NONCE, OPERATION,
-    SETTLED_AT, SIGNER,
+    DAY_MS, ENTRY_AMOUNT, JOURNAL_LEN, LAST_TIME_MS, MAX_AMOUNT_MICRO, NONCE, OPEN, OPERATION,
+    SETTLED_AT, SIGNER, TRANSFER,
 };
 
-// The operations that pay, as a journal's words.
-const TRANSFER: u64 = rules::limits::TRANSFER as u64;
-
-const OPEN: u64 = rules::limits::OPEN as u64;
-
-// Whether rows are right, and then whether the nonce was used and what the daily cap counts; nothing is said of rows that are not right.
+// What is said of rows that are right: whether the nonce was used, and what the daily cap counts.
 #[derive(Clone, Copy)]
 pub struct Looked {
-    pub right: bool,
     pub used: bool,
     pub spent: u64,
-}
-
-// What is said of rows that are not right.
-pub fn nothing() -> Looked
-    ensures { result ≡ record { right = false; used = false; spent = 0 } }
-{
-    Looked {
-        right: false,
-        used: false,
-        spent: 0,
-    }
-}
-
-// The earliest time that is not older than 24 hours at the clock.
-fn day_before(clock: u64) -> u64
-    ensures { result ≡ clock - Limits.DAY_MS }
-{
-    if clock < DAY_MS { 0 } else { clock - DAY_MS }
 }
 
 // The amount of the row that starts at a place, if it is a transfer or an open; `other` of any other row.
@@ -54,7 +30,7 @@ fn paid(journal: &[u64], at: usize, other: u64) -> u64
 {
     let operation = journal[at + OPERATION];
     rows::choose(
-        (operation == TRANSFER) | (operation == OPEN),
+        (operation == u64::from(TRANSFER)) | (operation == u64::from(OPEN)),
         journal[at + ENTRY_AMOUNT],
         other,
     )
@@ -80,34 +56,33 @@ fn spends(journal: &[u64], at: usize, signer: u64, since: u64, paid: u64) -> u64
     )
 }
 
-// Reads the first n rows.
-pub fn look(journal: &[u64], n: usize, signer: u64, nonce: u64, clock: u64) -> Looked
+// Reads the first n rows; `None` if one of them is not right.
+pub fn look(journal: &[u64], n: usize, signer: u64, nonce: u64, clock: u64) -> Option<Looked>
     requires { (n * Limits.JOURNAL_LEN ≤ length journal.now) × (n ≤ Limits.MAX_ENTRIES) }
     ensures { result ≡ looked (every n (λ i. all (entry_tests (entries_in journal.now) i))) (seen_in journal.now n signer nonce) (counted_of journal.now n signer clock) }
 {
-    let since = day_before(clock);
+    // the earliest time that is not older than 24 hours
+    let since = clock.saturating_sub(DAY_MS);
     let mut times = 0;
     let mut found = 0;
     let mut spent = 0;
-    let mut at = n * JOURNAL_LEN;
-    while 0 < at {
-        at -= JOURNAL_LEN;
+    for row in (0..n).rev() {
+        let at = row * JOURNAL_LEN;
         let amount = paid(journal, at, 0);
         // of a row that does not pay, n: it is 0 just if the row pays nothing
         if (paid(journal, at, n as u64) == 0) | (MAX_AMOUNT_MICRO < amount) {
-            return nothing();
+            return None;
         }
         // the last time is 2^48 - 1: one of them is later just if a higher bit is set in them together
-        times = times | journal[at + SETTLED_AT];
+        times |= journal[at + SETTLED_AT];
         found = rows::choose(uses(journal, at, signer, nonce), n as u64, found);
         spent += spends(journal, at, signer, since, amount);
     }
     if LAST_TIME_MS < times {
-        return nothing();
+        return None;
     }
-    Looked {
-        right: true,
+    Some(Looked {
         used: 0 < found,
         spent,
-    }
+    })
 }

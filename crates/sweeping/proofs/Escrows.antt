@@ -1,9 +1,11 @@
 -- The loop over the escrows, as that over the receipts, and the whole sweep.
 use mathlib.Core.Path.{◌≡◌, refl, sym, ap, ap₂, ◌∙◌, subst}
+use mathlib.Core.Bool.{Bool}
 use mathlib.Core.List.{List, []}
 use Prim.Native.Nat.{ℕ, ◌+◌, ◌-◌, ◌<◌, ◌≤◌, min}
 use native.Mathlib.Omega.{arith}
 use lib.ListN.{length, get_or}
+use Rattle.std.specs.Int.{from_bool}
 use Rattle.rules.specs.Limits.{ESCROWS}
 use Rattle.rules.specs.Table.{loop}
 use Rattle.rules.specs.Ledger.{Ledger, ledger_of}
@@ -17,7 +19,7 @@ use Rattle.rules.proofs.UpTo.{up_to_escrows, up_to_receipts}
 use Rattle.rows.specs.Numbered.{Names}
 use Rattle.moves.proofs.Bounds.{ends_of}
 use Rattle.sweeping.specs.Needs.{under_way, Expires, Expiring}
-use Rattle.sweeping.proofs.Turns.{loop_none, loop_next, loop_full, escrow_full}
+use Rattle.sweeping.proofs.Turns.{loop_none, loop_next, loop_full, escrow_full, one_row}
 
 -- after `number` escrows, of which `closed` were closed, behind any count of receipts
 pub record SoFar (ed : Edition) (h w₀ e₀ : List ℕ) (time limit closed number : ℕ) (w e : List ℕ) : Type 0 where
@@ -42,26 +44,28 @@ start ed h w e time limit = record {
 
 module _ (ed : Edition) (h w₀ e₀ : List ℕ) (time limit closed number : ℕ) (w e : List ℕ) (far : SoFar ed h w₀ e₀ time limit closed number w e) where
   pub next :
-      (w₁ e₁ : List ℕ) (x : ℕ)
+      (w₁ e₁ : List ℕ) (b : Bool) (x : ℕ)
       → number < get_or h ESCROWS 0
       → closed < limit
       → length w₁ ≡ length w
       → length e₁ ≡ length e
-      → x ≤ 1
+      → x ≡ from_bool b
       → ((K : Ledger) (room count : ℕ) → 0 < room
-      → under_way (room - x) (count + x) (up_to_escrows K ed h w₁ e₁) ≡ sweep_escrow time (number + 1 - 1) (under_way room count (up_to_escrows K ed h w e)))
+      → under_way (room - from_bool b) (count + from_bool b) (up_to_escrows K ed h w₁ e₁) ≡ sweep_escrow time (number + 1 - 1) (under_way room count (up_to_escrows K ed h w e)))
       → SoFar ed h w₀ e₀ time limit (closed + x) (number + 1) w₁ e₁
-  next w₁ e₁ x l m lw le small q = record {
+  next w₁ e₁ b x l m lw le one q = record {
     rows = omega arith;
-    room = omega arith;
+    room = omega (arith, one_row b x one);
     wallets = lw ∙ far.wallets;
     escrows = le ∙ far.escrows;
     far = λ K count.
         let a : limit - (closed + x) ≡ limit - closed - x = omega arith in
-        let b : count + (closed + x) ≡ count + closed + x = omega arith in
+        let c : count + (closed + x) ≡ count + closed + x = omega arith in
         let i : number + 1 - 1 ≡ number = omega arith in
         loop_next (sweep_escrow time) _ _ _ number (number + 1 - 1) (far.far K count) i
-        (ap₂ (λ (k n : ℕ). under_way k n (up_to_escrows K ed h w₁ e₁)) a b ∙ q K (limit - closed) (count + closed) (omega arith));
+        (ap₂ (λ (k n : ℕ). under_way k n (up_to_escrows K ed h w₁ e₁)) a c
+        ∙ ap (λ (k : ℕ). under_way (limit - closed - k) (count + closed + k) (up_to_escrows K ed h w₁ e₁)) one
+        ∙ q K (limit - closed) (count + closed) (omega arith));
   }
 
   -- the next escrow can end if it is open
@@ -82,18 +86,7 @@ module _ (ed : Edition) (h w₀ e₀ : List ℕ) (time limit closed number : ℕ
         }),
       )
 
-  -- no escrow is left, or no room
-  pub ended :
-      get_or h ESCROWS 0 ≤ number
-      → (closed ≤ limit) × ((K : Ledger) (count : ℕ) → under_way (limit - closed) (count + closed) (up_to_escrows K ed h w e)
-      ≡ loop (get_or h ESCROWS 0) (sweep_escrow time) (under_way limit count (up_to_escrows K ed h w₀ e₀)))
-  ended l = (
-    far.room,
-    λ K count.
-        let n : number ≡ get_or h ESCROWS 0 = omega (arith, far.rows) in
-        far.far K count ∙ ap (λ (k : ℕ). loop k (sweep_escrow time) (under_way limit count (up_to_escrows K ed h w₀ e₀))) n,
-  )
-
+  -- no room is left
   pub full :
       limit ≤ closed
       → (closed ≤ limit) × ((K : Ledger) (count : ℕ) → under_way (limit - closed) (count + closed) (up_to_escrows K ed h w e)

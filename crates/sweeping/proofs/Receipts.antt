@@ -1,11 +1,13 @@
 -- The loop over the receipts: so far the tables, the room and the count are those of the definition's loop. A ledger that was good is good
 -- after each of its turns, so that the next receipt can be accepted.
 use mathlib.Core.Path.{◌≡◌, refl, sym, ap, ◌∙◌, subst}
+use mathlib.Core.Bool.{Bool}
 use mathlib.Core.List.{List, []}
 use Prim.Native.Nat.{ℕ, ◌+◌, ◌-◌, ◌<◌, ◌≤◌}
 use native.Mathlib.Nat.{le_refl}
 use native.Mathlib.Omega.{arith}
 use lib.ListN.{length, get_or}
+use Rattle.std.specs.Int.{from_bool}
 use Rattle.rules.specs.Limits.{RECEIPTS}
 use Rattle.rules.specs.Table.{loop}
 use Rattle.rules.specs.Ledger.{Ledger, ledger_of}
@@ -18,7 +20,7 @@ use Rattle.rows.specs.Numbered.{Names}
 use Rattle.moves.specs.Needs.{Accepts}
 use Rattle.moves.proofs.Bounds.{accepts_of}
 use Rattle.sweeping.specs.Needs.{under_way, Sweeping, Expiring}
-use Rattle.sweeping.proofs.Turns.{loop_none, loop_next, loop_full, receipt_full}
+use Rattle.sweeping.proofs.Turns.{loop_none, loop_next, loop_full, receipt_full, one_row}
 
 -- after `number` receipts, of which `closed` were closed
 pub record SoFar (ed : Edition) (h w₀ e₀ r₀ : List ℕ) (time limit closed number : ℕ) (w e r : List ℕ) : Type 0 where
@@ -44,19 +46,19 @@ start ed h w e r time limit = record {
 
 module _ (ed : Edition) (h w₀ e₀ r₀ : List ℕ) (time limit closed number : ℕ) (w e r : List ℕ) (far : SoFar ed h w₀ e₀ r₀ time limit closed number w e r) where
   pub next :
-      (w₁ e₁ r₁ : List ℕ) (x : ℕ)
+      (w₁ e₁ r₁ : List ℕ) (b : Bool) (x : ℕ)
       → number < get_or h RECEIPTS 0
       → closed < limit
       → length w₁ ≡ length w
       → length e₁ ≡ length e
       → length r₁ ≡ length r
-      → x ≤ 1
+      → x ≡ from_bool b
       → ((K : Ledger) (room count : ℕ) → 0 < room
-      → under_way (room - x) (count + x) (up_to_receipts K ed h w₁ e₁ r₁) ≡ sweep_receipt time (number + 1 - 1) (under_way room count (up_to_receipts K ed h w e r)))
+      → under_way (room - from_bool b) (count + from_bool b) (up_to_receipts K ed h w₁ e₁ r₁) ≡ sweep_receipt time (number + 1 - 1) (under_way room count (up_to_receipts K ed h w e r)))
       → SoFar ed h w₀ e₀ r₀ time limit (closed + x) (number + 1) w₁ e₁ r₁
-  next w₁ e₁ r₁ x l m lw le lr small q = record {
+  next w₁ e₁ r₁ b x l m lw le lr one q = record {
     rows = omega arith;
-    room = omega arith;
+    room = omega (arith, one_row b x one);
     wallets = lw ∙ far.wallets;
     escrows = le ∙ far.escrows;
     receipts = lr ∙ far.receipts;
@@ -64,7 +66,9 @@ module _ (ed : Edition) (h w₀ e₀ r₀ : List ℕ) (time limit closed number 
         let a : limit - (closed + x) ≡ limit - closed - x = omega arith in
         let i : number + 1 - 1 ≡ number = omega arith in
         loop_next (sweep_receipt time) _ _ _ number (number + 1 - 1) (far.far K) i
-        (ap (λ (k : ℕ). under_way k (closed + x) (up_to_receipts K ed h w₁ e₁ r₁)) a ∙ q K (limit - closed) closed (omega arith));
+        (ap (λ (k : ℕ). under_way k (closed + x) (up_to_receipts K ed h w₁ e₁ r₁)) a
+        ∙ ap (λ (k : ℕ). under_way (limit - closed - k) (closed + k) (up_to_receipts K ed h w₁ e₁ r₁)) one
+        ∙ q K (limit - closed) closed (omega arith));
   }
 
   -- the next receipt can be accepted

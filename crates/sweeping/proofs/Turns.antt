@@ -9,16 +9,15 @@ use native.Mathlib.Numerals.{add-one}
 use native.Mathlib.Omega.{arith}
 use lib.Dec.{eqb, ltb}
 use borrow.Author.Tests.{eq-eqb, ne_eqb, lt-ltb}
+use Rattle.std.specs.Int.{from_bool}
 use Rattle.rules.specs.Limits.{RECEIPT_LEN, AUTO_ACCEPT, LAPSED, RECEIPT_STATE, ACCEPTANCE_DEADLINE, PENDING, ESCROW_STATE, ESCROW_DEADLINE, IS_OPEN, EXPIRED}
 use Rattle.rules.specs.Table.{word, loop}
 use Rattle.rules.specs.Ledger.{Ledger, set_receipts}
 use Rattle.rules.specs.declared.Edition.{Edition}
 use Rattle.rules.specs.Settle.{Sweep, done, Done, accept_row, close_receipt, end_escrow, due_receipt, due_escrow, close_due_receipt, close_due_escrow, sweep_receipt, sweep_escrow}
-use Rattle.rules.proofs.Bools.{and_fst}
 use Rattle.rules.proofs.Turns.{turn}
 use Rattle.rules.proofs.UpTo.{up_to_escrows, up_to_receipts}
-use Rattle.moves.specs.Needs.{Ends}
-use Rattle.sweeping.specs.Needs.{under_way, Expires}
+use Rattle.sweeping.specs.Needs.{under_way}
 
 -- a due receipt is accepted, or expires
 pub due_accepted :
@@ -42,16 +41,23 @@ unfolding close_due_receipt
 due_lapsed ed h w e r r₁ time i auto a z q K = rw (ne_eqb _ _ (λ (y : word r RECEIPT_LEN i AUTO_ACCEPT ≡ 1). z (a ∙ y))) (q (up_to_receipts K ed h w e r))
 
 -- whatever is due and however it is closed
-turned : (due : Ledger → ℕ → Bool) (close : ℕ → Ledger → Ledger) (L K : Ledger) (i room closed : ℕ)
-    → due L i ≡ true → K ≡ close i L → 0 < room → under_way (room - 1) (closed + 1) K ≡ turn due close i (under_way room closed L)
-turned due close L K i room closed d k l = rw (lt-ltb 0 room l, d, k)
+turned : (due : Ledger → ℕ → Bool) (close : ℕ → Ledger → Ledger) (L K : Ledger) (i room closed : ℕ) (b : Bool)
+    → b ≡ true → due L i ≡ true → K ≡ close i L → 0 < room
+    → under_way (room - from_bool b) (closed + from_bool b) K ≡ turn due close i (under_way room closed L)
+turned due close L K i room closed b t d k l = rw (t, lt-ltb 0 room l, d, k)
 
-passed_over : (due : Ledger → ℕ → Bool) (close : ℕ → Ledger → Ledger) (L : Ledger) (i room closed : ℕ)
-    → due L i ≡ false → 0 < room → under_way (room - 0) (closed + 0) L ≡ turn due close i (under_way room closed L)
-passed_over due close L i room closed d l =
+passed_over : (due : Ledger → ℕ → Bool) (close : ℕ → Ledger → Ledger) (L : Ledger) (i room closed : ℕ) (b : Bool)
+    → b ≡ false → due L i ≡ false → 0 < room
+    → under_way (room - from_bool b) (closed + from_bool b) L ≡ turn due close i (under_way room closed L)
+passed_over due close L i room closed b t d l =
     let r : room - 0 ≡ room = omega arith in
     let c : closed + 0 ≡ closed = omega arith in
-    rw (lt-ltb 0 room l, d, r, c)
+    rw (t, lt-ltb 0 room l, d, r, c)
+
+-- a turn closes one row or none
+pub one_row : (b : Bool) (x : ℕ) → x ≡ from_bool b → x ≤ 1
+one_row true x e = omega arith
+one_row false x e = omega arith
 
 module _ (ed : Edition) (h w e r : List ℕ) (time i state deadline : ℕ) (b : Bool)
     (p : state ≡ word r RECEIPT_LEN i RECEIPT_STATE) (d : deadline ≡ word r RECEIPT_LEN i ACCEPTANCE_DEADLINE)
@@ -64,17 +70,17 @@ module _ (ed : Edition) (h w e r : List ℕ) (time i state deadline : ℕ) (b : 
       → b ≡ true
       → ((K : Ledger) → up_to_receipts K ed h w₁ e₁ r₁ ≡ close_due_receipt time i (up_to_receipts K ed h w e r))
       → (K : Ledger) (room closed : ℕ) → 0 < room
-      → under_way (room - 1) (closed + 1) (up_to_receipts K ed h w₁ e₁ r₁) ≡ sweep_receipt time i (under_way room closed (up_to_receipts K ed h w e r))
+      → under_way (room - from_bool b) (closed + from_bool b) (up_to_receipts K ed h w₁ e₁ r₁) ≡ sweep_receipt time i (under_way room closed (up_to_receipts K ed h w e r))
   unfolding sweep_receipt
   receipt_closed w₁ e₁ r₁ t q K room closed l =
-      turned (λ L k. due_receipt L time k) (close_due_receipt time) (up_to_receipts K ed h w e r) (up_to_receipts K ed h w₁ e₁ r₁) i room closed (sym receipt_test ∙ t) (q K) l
+      turned (λ L k. due_receipt L time k) (close_due_receipt time) (up_to_receipts K ed h w e r) (up_to_receipts K ed h w₁ e₁ r₁) i room closed b t (sym receipt_test ∙ t) (q K) l
 
   pub receipt_passed :
       b ≡ false → (K : Ledger) (room closed : ℕ) → 0 < room
-      → under_way (room - 0) (closed + 0) (up_to_receipts K ed h w e r) ≡ sweep_receipt time i (under_way room closed (up_to_receipts K ed h w e r))
+      → under_way (room - from_bool b) (closed + from_bool b) (up_to_receipts K ed h w e r) ≡ sweep_receipt time i (under_way room closed (up_to_receipts K ed h w e r))
   unfolding sweep_receipt
   receipt_passed t K room closed l =
-      passed_over (λ L k. due_receipt L time k) (close_due_receipt time) (up_to_receipts K ed h w e r) i room closed (sym receipt_test ∙ t) l
+      passed_over (λ L k. due_receipt L time k) (close_due_receipt time) (up_to_receipts K ed h w e r) i room closed b t (sym receipt_test ∙ t) l
 
 module _ (ed : Edition) (h w e : List ℕ) (time i state deadline : ℕ) (b : Bool)
     (p : state ≡ word e ed.escrow i ESCROW_STATE) (d : deadline ≡ word e ed.escrow i ESCROW_DEADLINE)
@@ -82,26 +88,22 @@ module _ (ed : Edition) (h w e : List ℕ) (time i state deadline : ℕ) (b : Bo
   escrow_test : b ≡ (eqb (word e ed.escrow i ESCROW_STATE) IS_OPEN && ltb (word e ed.escrow i ESCROW_DEADLINE) time)
   escrow_test = rw (← p, ← d) x
 
-  -- an escrow that is due can end
-  pub can_end : Expires ed h w e i → b ≡ true → Ends ed h w e i
-  can_end can t = can.ends (and_fst _ (ltb (word e ed.escrow i ESCROW_DEADLINE) time) (sym escrow_test ∙ t))
-
   pub escrow_closed :
       (w₁ e₁ : List ℕ)
       → b ≡ true
       → ((K : Ledger) → up_to_escrows K ed h w₁ e₁ ≡ end_escrow EXPIRED time 0 i (up_to_escrows K ed h w e))
       → (K : Ledger) (room closed : ℕ) → 0 < room
-      → under_way (room - 1) (closed + 1) (up_to_escrows K ed h w₁ e₁) ≡ sweep_escrow time i (under_way room closed (up_to_escrows K ed h w e))
+      → under_way (room - from_bool b) (closed + from_bool b) (up_to_escrows K ed h w₁ e₁) ≡ sweep_escrow time i (under_way room closed (up_to_escrows K ed h w e))
   unfolding sweep_escrow close_due_escrow
   escrow_closed w₁ e₁ t q K room closed l =
-      turned (λ L k. due_escrow L time k) (end_escrow EXPIRED time 0) (up_to_escrows K ed h w e) (up_to_escrows K ed h w₁ e₁) i room closed (sym escrow_test ∙ t) (q K) l
+      turned (λ L k. due_escrow L time k) (end_escrow EXPIRED time 0) (up_to_escrows K ed h w e) (up_to_escrows K ed h w₁ e₁) i room closed b t (sym escrow_test ∙ t) (q K) l
 
   pub escrow_passed :
       b ≡ false → (K : Ledger) (room closed : ℕ) → 0 < room
-      → under_way (room - 0) (closed + 0) (up_to_escrows K ed h w e) ≡ sweep_escrow time i (under_way room closed (up_to_escrows K ed h w e))
+      → under_way (room - from_bool b) (closed + from_bool b) (up_to_escrows K ed h w e) ≡ sweep_escrow time i (under_way room closed (up_to_escrows K ed h w e))
   unfolding sweep_escrow
   escrow_passed t K room closed l =
-      passed_over (λ L k. due_escrow L time k) (close_due_escrow time) (up_to_escrows K ed h w e) i room closed (sym escrow_test ∙ t) l
+      passed_over (λ L k. due_escrow L time k) (close_due_escrow time) (up_to_escrows K ed h w e) i room closed b t (sym escrow_test ∙ t) l
 
 -- ---- a loop of turns
 

@@ -2,6 +2,7 @@
 #![tactic(auto)]
 
 ghost use Rattle.std.specs.Prelude.{◌≡◌, ◌&&◌, ℕ, ◌+◌, ◌-◌, ◌<◌, ◌≤◌, min, get_or, eqb, ltb};
+ghost use Rattle.std.specs.Int.{from_bool};
 ghost use Rattle.rules.specs.Limits;
 ghost use Rattle.rules.specs.Table.{loop};
 ghost use Rattle.rules.specs.Ledger.{Ledger};
@@ -52,7 +53,7 @@ fn close_due_receipt(
     moves::close_receipt(receipts, number, LAPSED, time, NOBODY);
 }
 
-// One receipt of a sweep that may still close a row: 1 if it was due, else 0.
+// One receipt of a sweep that may still close a row: whether it was due.
 fn sweep_receipt(
     edition: Edition,
     header: &[u64],
@@ -61,17 +62,17 @@ fn sweep_receipt(
     receipts: &mut [u64],
     number: ReceiptNumber,
     time: u64,
-) -> u64
+) -> bool
     requires { Names number.0 × Accepts edition header.now wallets.old escrows.old receipts.old time (number.0 - 1) }
-    ensures { (result ≤ 1) × ((K : Ledger) (room closed : ℕ) → let L = any K of_edition edition seeing_header header with_wallets wallets with_escrows escrows with_receipts receipts in 0 < room → under_way (room - result) (closed + result) L.exit ≡ sweep_receipt time (number.0 - 1) (under_way room closed L.entry)) }
+    ensures { (K : Ledger) (room closed : ℕ) → let L = any K of_edition edition seeing_header header with_wallets wallets with_escrows escrows with_receipts receipts in 0 < room → under_way (room - from_bool result) (closed + from_bool result) L.exit ≡ sweep_receipt time (number.0 - 1) (under_way room closed L.entry) }
 {
     let state = numbered::receipt(receipts, number, RECEIPT_STATE);
     let deadline = numbered::receipt(receipts, number, ACCEPTANCE_DEADLINE);
-    if is_due(state, PENDING, deadline, time) {
+    let due = is_due(state, PENDING, deadline, time);
+    if due {
         close_due_receipt(edition, header, wallets, escrows, receipts, number, time);
-        return 1;
     }
-    0
+    due
 }
 
 // One escrow, likewise; it expires with its credits returned.
@@ -82,19 +83,19 @@ fn sweep_escrow(
     escrows: &mut [u64],
     number: EscrowNumber,
     time: u64,
-) -> u64
+) -> bool
     requires { Names number.0 × Expires edition header.now wallets.old escrows.old (number.0 - 1) }
-    ensures { (result ≤ 1) × ((K : Ledger) (room closed : ℕ) → let L = any K of_edition edition seeing_header header with_wallets wallets with_escrows escrows in 0 < room → under_way (room - result) (closed + result) L.exit ≡ sweep_escrow time (number.0 - 1) (under_way room closed L.entry)) }
+    ensures { (K : Ledger) (room closed : ℕ) → let L = any K of_edition edition seeing_header header with_wallets wallets with_escrows escrows in 0 < room → under_way (room - from_bool result) (closed + from_bool result) L.exit ≡ sweep_escrow time (number.0 - 1) (under_way room closed L.entry) }
 {
     let state = numbered::escrow(edition, escrows, number, ESCROW_STATE);
     let deadline = numbered::escrow(edition, escrows, number, ESCROW_DEADLINE);
-    if is_due(state, IS_OPEN, deadline, time) {
+    let due = is_due(state, IS_OPEN, deadline, time);
+    if due {
         moves::end_escrow(
             edition, header, wallets, escrows, number, EXPIRED, time, NOBODY,
         );
-        return 1;
     }
-    0
+    due
 }
 
 // All receipts in row order, while there is room: how many were closed.
@@ -112,20 +113,19 @@ fn sweep_receipts(
 {
     let written = header[RECEIPTS];
     let mut closed = 0;
-    let mut number = ReceiptNumber(0);
-    loop {
-        if written <= number.0 {
-            break closed;
-        }
+    for row in 0..written {
         if limit <= closed {
-            break closed;
+            break;
         }
-        number.0 += 1;
-        closed += sweep_receipt(edition, header, wallets, escrows, receipts, number, time);
+        let number = ReceiptNumber(row + 1);
+        let swept = sweep_receipt(edition, header, wallets, escrows, receipts, number, time);
+        closed += u64::from(swept);
     }
+    closed
 }
 
-// All escrows in row order, while there is room.
+// All escrows in row order, while there is room. The loop is that over receipts with other tables lent; one loop for both, given the turn
+// of a row as a closure, could speak of the tables only by the closure's contract, which either caller would have to unfold again.
 fn sweep_escrows(
     edition: Edition,
     header: &[u64],
@@ -139,17 +139,15 @@ fn sweep_escrows(
 {
     let written = header[ESCROWS];
     let mut closed = 0;
-    let mut number = EscrowNumber(0);
-    loop {
-        if written <= number.0 {
-            break closed;
-        }
+    for row in 0..written {
         if limit <= closed {
-            break closed;
+            break;
         }
-        number.0 += 1;
-        closed += sweep_escrow(edition, header, wallets, escrows, number, time);
+        let number = EscrowNumber(row + 1);
+        let swept = sweep_escrow(edition, header, wallets, escrows, number, time);
+        closed += u64::from(swept);
     }
+    closed
 }
 
 // The sweep: how many rows it closed, which is the smaller of its limit and the rows that were due.

@@ -10,13 +10,13 @@ pub returns-then-link-eq0 : goal.returns-then-link-eq0
 returns-then-link-eq0 c =
     not_linked _ _ _ _ _ _ _ _ c.receipt-auto.ensures c.receipt.ensures c.if-link-eq0.true
 
-pub returns-then-marks-row-ne0 : goal.returns-then-marks-row-ne0
-returns-then-marks-row-ne0 c =
-    was_marked _ _ _ _ _ _ _ _ c.receipt-auto.ensures c.receipt.ensures c.if-marks-row-ne0.true
+pub returns-then-marks-row : goal.returns-then-marks-row
+returns-then-marks-row c =
+    was_marked _ _ _ _ _ _ _ _ c.receipt-auto.ensures c.receipt.ensures c.if-marks-row.true
 
 pub returns-then-is_releasable : goal.returns-then-is_releasable
 returns-then-is_releasable c =
-    released_now _ _ _ _ _ _ _ _ c.receipt-auto.ensures c.receipt.ensures _ _ _ c.if-auto-ne1.false c.if-link-eq0.false c.if-marks-row-ne0.false c.is_releasable.ensures c.if-is_releasable.true c.escrow.ensures refl
+    released_now _ _ _ _ _ _ _ _ c.receipt-auto.ensures c.receipt.ensures _ _ _ c.if-auto-ne1.false c.if-link-eq0.false c.if-marks-row.false c.is_releasable.ensures c.if-is_releasable.true c.escrow.ensures refl
 
 pub returns : goal.returns
 returns c =

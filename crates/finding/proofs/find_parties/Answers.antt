@@ -2,11 +2,5 @@
 use Rattle.finding.proofs.Laws.{by_parties}
 use Rattle.finding.proofs.find_parties.Goals as goal
 
-pub find_if-signer-requires : goal.find_if-signer-requires
-find_if-signer-requires c = c.requires.1
-
-pub find_if-target-requires : goal.find_if-target-requires
-find_if-target-requires c = c.requires.1
-
 pub returns : goal.returns
-returns c = by_parties _ _ _ c.find_if-signer.ensures c.find_if-target.ensures
+returns c = by_parties _ _ _ c.names_signer.ensures c.names_target.ensures c.find_if-signer.ensures c.find_if-target.ensures

@@ -1,20 +1,19 @@
 -- `operations::close` meets its contract: one word set, of a live wallet.
 use lib.Dec.{lit<}
 use Rattle.operations.proofs.Sets.{can_set, shut}
-use Rattle.operations.proofs.Live.{live_row, not_missing, not_closed}
+use Rattle.operations.proofs.Live.{live_row, is_live}
 use Rattle.operations.proofs.close.Goals as goal
 
 pub set_wallet-requires : goal.set_wallet-requires
 set_wallet-requires c =
     can_set _ _ _ _ _ c.requires.counted (live_row _ _ _ _ c.find_wallet-found.ensures _ c.in-Live.is) (lit< tt)
 
-pub returns-in-Live : goal.returns-in-Live
-returns-in-Live c =
+pub returns : goal.returns
+returns c =
     let target = live_row _ _ _ _ c.find_wallet-found.ensures _ c.in-Live.is in
     λ K. shut K _ _ _ _ _ target c.set_wallet.ensures
 
-pub returns-in-Missing : goal.returns-in-Missing
-returns-in-Missing c = absurd (not_missing _ _ _ _ c.find_wallet-found.ensures c.requires.target.there c.in-Missing.is)
-
-pub returns-in-Closed : goal.returns-in-Closed
-returns-in-Closed c = absurd (not_closed _ _ _ _ c.find_wallet-found.ensures c.requires.target.unclosed _ c.in-Closed.is)
+pub returns-in_default : goal.returns-in_default
+returns-in_default c =
+    let lives = c.requires.target in
+    absurd (c.in_default.not-Live _ (is_live _ _ _ _ c.find_wallet-found.ensures lives.there lives.unclosed))

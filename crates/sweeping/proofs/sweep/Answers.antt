@@ -1,5 +1,4 @@
 -- `sweeping::sweep` meets its contract: the receipts, then the escrows with the room that is left.
-use native.Mathlib.Omega.{arith}
 use Rattle.sweeping.proofs.Receipts.{expiring}
 use Rattle.sweeping.proofs.Escrows.{swept_by}
 use Rattle.sweeping.proofs.sweep.Goals as goal
@@ -7,9 +6,6 @@ use Rattle.sweeping.proofs.sweep.Goals as goal
 pub sweep_escrows-expired-requires : goal.sweep_escrows-expired-requires
 sweep_escrows-expired-requires c =
     expiring _ _ _ _ _ _ _ _ _ c.args.limit c.sweep_receipts-closed.result c.requires c.sweep_receipts-closed.ensures.1
-
-pub overflow_add-result : goal.overflow_add-result
-overflow_add-result c = omega (arith, c.sweep_receipts-closed.ensures.0, c.sweep_escrows-expired.ensures.0)
 
 pub returns : goal.returns
 returns c =

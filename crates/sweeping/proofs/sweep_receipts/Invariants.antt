@@ -1,12 +1,7 @@
 -- `sweeping::sweep_receipts` meets its contract. The invariant: so far it is the definition's loop.
-use Prim.Native.Nat.{◌-◌}
 use Rattle.sweeping.proofs.Receipts.{SoFar}
 use Rattle.sweeping.proofs.sweep_receipts.Given as goal
 
-abbrev pub invariant-loop-number : goal.invariant-loop-number
-invariant-loop-number l =
-    SoFar l.edition l.header l.initial.wallets l.initial.escrows l.initial.receipts l.time l.limit l.closed l.number.0 l.wallets l.escrows l.receipts
-
-abbrev pub decreases-loop-number : goal.decreases-loop-number
-decreases-loop-number l =
-    l.written - l.number.0
+abbrev pub invariant-loop-row : goal.invariant-loop-row
+invariant-loop-row l =
+    SoFar l.edition l.header l.initial.wallets l.initial.escrows l.initial.receipts l.time l.limit l.closed l.row l.wallets l.escrows l.receipts
