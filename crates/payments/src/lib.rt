@@ -10,17 +10,22 @@ ghost use Rattle.rules.specs.Refusals.{first, operation_refusals};
 ghost use Rattle.payments.specs.Entries.{Entries};
 ghost use Rattle.payments.specs.Sending.{sending_refusals};
 
-use rules::refusal::{Refusal, first_of};
 use rules::limits::{
     BALANCE, DAILY_CAP, ENTRIES, ESCROWS, FROZEN, GRANTED, IS_FROZEN, JOURNAL_LEN,
     MAX_AMOUNT_MICRO, MAX_GRANTED_MICRO, MAX_HOLD_MS, OPEN, TX_CAP, WALLET_LEN, WALLETS,
 };
+use rules::refusal::{Refusal, first_of};
 use rules::{Edition, Submission, WalletNumber, WalletState};
 
 pub mod sums;
 
 // A grant: checks 12, 15, 43, 36, 37, 40, in this order.
-pub fn grant_refusal(header: &[u64], wallets: &[u64], journal: &[u64], s: Submission) -> Result<(), Refusal>
+pub fn grant_refusal(
+    header: &[u64],
+    wallets: &[u64],
+    journal: &[u64],
+    s: Submission,
+) -> Result<(), Refusal>
     requires { (Limits.ENTRIES < length header.now) × (get_or header.now Limits.WALLETS 0 * Limits.WALLET_LEN ≤ length wallets.now) × (s.op ≡ Limits.GRANT) }
     ensures { (K : Ledger) → let L = any K seeing_header header seeing_wallets wallets seeing_journal journal in numbered result ≡ first (operation_refusals L.entry s) }
 {

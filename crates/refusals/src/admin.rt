@@ -8,11 +8,11 @@ ghost use Rattle.rules.specs.Numbers.{numbered};
 ghost use Rattle.rules.specs.Refusals.{first, operation_refusals};
 ghost use Rattle.rules.specs.Wallets.{open_to};
 
-use rules::refusal::{Refusal, first_of};
 use rules::limits::{
     BALANCE, ENTRIES, ESCROW_STATE, ESCROWS, IS_OPEN, JOURNAL_LEN, LOCKED, MAX_AMOUNT_MICRO,
     MAX_SWEEP_ROWS, TO, WALLETS,
 };
+use rules::refusal::{Refusal, first_of};
 use rules::{Edition, Submission, WalletState};
 
 // A sweep: check 12, of its limit.
@@ -25,7 +25,12 @@ pub fn sweep_refusal(s: Submission) -> Result<(), Refusal>
 }
 
 // A freeze: checks 16, 43, 40, in this order. Target 0 is the system.
-pub fn freeze_refusal(header: &[u64], wallets: &[u64], journal: &[u64], s: Submission) -> Result<(), Refusal>
+pub fn freeze_refusal(
+    header: &[u64],
+    wallets: &[u64],
+    journal: &[u64],
+    s: Submission,
+) -> Result<(), Refusal>
     requires { (Limits.ENTRIES < length header.now) × (get_or header.now Limits.WALLETS 0 * Limits.WALLET_LEN ≤ length wallets.now) × (s.op ≡ Limits.FREEZE) }
     ensures { (K : Ledger) → let L = any K seeing_header header seeing_wallets wallets seeing_journal journal in numbered result ≡ first (operation_refusals L.entry s) }
 {
@@ -43,7 +48,12 @@ pub fn freeze_refusal(header: &[u64], wallets: &[u64], journal: &[u64], s: Submi
 }
 
 // New caps: checks 12, 16, 43, 40, in this order.
-pub fn caps_refusal(header: &[u64], wallets: &[u64], journal: &[u64], s: Submission) -> Result<(), Refusal>
+pub fn caps_refusal(
+    header: &[u64],
+    wallets: &[u64],
+    journal: &[u64],
+    s: Submission,
+) -> Result<(), Refusal>
     requires { (Limits.ENTRIES < length header.now) × (get_or header.now Limits.WALLETS 0 * Limits.WALLET_LEN ≤ length wallets.now) × (s.op ≡ Limits.CAPS) }
     ensures { (K : Ledger) → let L = any K seeing_header header seeing_wallets wallets seeing_journal journal in numbered result ≡ first (operation_refusals L.entry s) }
 {

@@ -8,10 +8,10 @@ ghost use Rattle.rules.specs.Numbers.{numbered};
 ghost use Rattle.rules.specs.Refusals.{first, operation_refusals};
 ghost use Rattle.refusals.specs.Checkable.{Checkable, later_refusals};
 
+use rules::Submission;
 use rules::limits::{
     CAPS, CLAIM, CLOSE, FREEZE, GRANT, OPEN, REFUND, RELEASE, REPLY, SWEEP, TRANSFER,
 };
-use rules::Submission;
 use rules::refusal::Refusal;
 use rules::tables::Tables;
 
@@ -22,7 +22,14 @@ fn operation_refusal(ledger: Tables<'_>, s: Submission) -> Result<(), Refusal>
     requires { Checkable (ledger_in ledger) s }
     ensures { numbered result ≡ first (operation_refusals (ledger_in ledger.entry) s) }
 {
-    let Tables { edition, header, wallets, escrows, receipts, journal } = ledger;
+    let Tables {
+        edition,
+        header,
+        wallets,
+        escrows,
+        receipts,
+        journal,
+    } = ledger;
     let op = s.op;
     match op {
         GRANT => payments::grant_refusal(header, wallets, journal, s),
