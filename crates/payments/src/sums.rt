@@ -11,7 +11,7 @@ use rules::limits::{
 pub fn exceeds(a: u64, b: u64, cap: u64) -> bool
     ensures { result ≡ ltb cap (a + b) }
 {
-    if cap < a { true } else { cap - a < b }
+    a.checked_add(b).is_none_or(|sum| cap < sum)
 }
 
 // The amounts of the signer's transfers and opens, of the first n journal rows, that are not older than 24 hours at the clock. The rows
@@ -21,15 +21,13 @@ pub fn counted(journal: &[u64], n: usize, signer: u64, clock: u64) -> u64
     ensures { result ≡ counted_of journal.now n signer clock }
 {
     let mut sum = 0;
-    let mut i = 0;
-    while i < n {
+    for i in 0..n {
         let at = i * JOURNAL_LEN;
         let recent = clock <= journal[at + SETTLED_AT] + DAY_MS;
         let operation = journal[at + OPERATION];
-        let pays = (operation == TRANSFER as u64) | (operation == OPEN as u64);
+        let pays = (operation == u64::from(TRANSFER)) | (operation == u64::from(OPEN));
         let counts = (journal[at + SIGNER] == signer) & (pays & recent);
         sum += rows::choose(counts, journal[at + ENTRY_AMOUNT], 0);
-        i += 1;
     }
     sum
 }
