@@ -243,20 +243,12 @@ impl From<WalletState> for Standing {
     ghost from_gives = { λ state standing. standing ≡ standing_of state };
 
     fn from(state: WalletState) -> Standing {
-        match state {
-            WalletState::Missing => Standing {
-                state: WALLET_MISSING,
-                number: 0,
-            },
-            WalletState::Live(wallet) => Standing {
-                state: WALLET_LIVE,
-                number: wallet.0,
-            },
-            WalletState::Closed(wallet) => Standing {
-                state: WALLET_CLOSED,
-                number: wallet.0,
-            },
-        }
+        let (state, number) = match state {
+            WalletState::Missing => (WALLET_MISSING, 0),
+            WalletState::Live(wallet) => (WALLET_LIVE, wallet.0),
+            WalletState::Closed(wallet) => (WALLET_CLOSED, wallet.0),
+        };
+        Standing { state, number }
     }
 }
 
