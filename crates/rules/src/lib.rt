@@ -9,7 +9,7 @@ ghost use Rattle.rules.specs.Wallets.{standing_of};
 
 use crate::limits::{
     ALL_AGREE, ANSWERS, BAD_TABLE, CUT_SHORT, DISAGREES, ESCROW_LEN, FIRST_EDITION, HEADER_LEN,
-    MALFORMED_RECORD, NOT_REPLAYED, WALLET_CLOSED, WALLET_LIVE, WALLET_MISSING,
+    LAST_ANSWER, MALFORMED_RECORD, NOT_REPLAYED, WALLET_CLOSED, WALLET_LIVE, WALLET_MISSING,
 };
 use crate::refusal::Refusal;
 
@@ -263,5 +263,9 @@ const STATUSES: [u64; ANSWERS] = [
 pub fn status(number: u64) -> u64
     ensures { result ≡ status_of number }
 {
-    STATUSES.get(number as usize).copied().unwrap_or(500)
+    if number <= LAST_ANSWER {
+        STATUSES[number as usize]
+    } else {
+        500
+    }
 }
