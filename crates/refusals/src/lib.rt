@@ -9,9 +9,7 @@ ghost use Rattle.rules.specs.Refusals.{first, operation_refusals};
 ghost use Rattle.refusals.specs.Checkable.{Checkable, later_refusals};
 
 use rules::Submission;
-use rules::limits::{
-    CAPS, CLAIM, CLOSE, FREEZE, GRANT, OPEN, REFUND, RELEASE, REPLY, SWEEP, TRANSFER,
-};
+use rules::operation::Operation;
 use rules::refusal::Refusal;
 use rules::tables::Tables;
 
@@ -30,19 +28,24 @@ fn operation_refusal(ledger: Tables<'_>, s: Submission) -> Result<(), Refusal>
         receipts,
         journal,
     } = ledger;
-    let op = s.op;
-    match op {
-        GRANT => payments::grant_refusal(header, wallets, journal, s),
-        TRANSFER | OPEN => payments::paying_refusal(edition, header, wallets, escrows, journal, s),
-        RELEASE | REFUND => holds::closing_refusal(edition, header, escrows, journal, s),
-        CLAIM => holds::claim_refusal(ledger, s),
-        REPLY => holds::reply_refusal(header, receipts, journal, s),
-        SWEEP => admin::sweep_refusal(s),
-        FREEZE => admin::freeze_refusal(header, wallets, journal, s),
-        CAPS => admin::caps_refusal(header, wallets, journal, s),
-        CLOSE => admin::close_refusal(edition, header, wallets, escrows, journal, s),
+    match Operation::try_from(s.op) {
+        Ok(Operation::Grant) => payments::grant_refusal(header, wallets, journal, s),
+        Ok(Operation::Transfer) => payments::paying_refusal(
+            edition, header, wallets, escrows, journal, s,
+        ),
+        Ok(Operation::Open) => payments::paying_refusal(
+            edition, header, wallets, escrows, journal, s,
+        ),
+        Ok(Operation::Release) => holds::closing_refusal(edition, header, escrows, journal, s),
+        Ok(Operation::Refund) => holds::closing_refusal(edition, header, escrows, journal, s),
+        Ok(Operation::Claim) => holds::claim_refusal(ledger, s),
+        Ok(Operation::Reply) => holds::reply_refusal(header, receipts, journal, s),
+        Ok(Operation::Sweep) => admin::sweep_refusal(s),
+        Ok(Operation::Freeze) => admin::freeze_refusal(header, wallets, journal, s),
+        Ok(Operation::Caps) => admin::caps_refusal(header, wallets, journal, s),
+        Ok(Operation::Close) => admin::close_refusal(edition, header, wallets, escrows, journal, s),
         // no well-formed record has another operation
-        _ => Ok(()),
+        Err(_) => Ok(()),
     }
 }
 
