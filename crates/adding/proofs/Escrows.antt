@@ -5,6 +5,7 @@ use mathlib.Core.List.{List, [], ◌∷◌}
 use Prim.Native.Nat.{ℕ, ◌+◌, ◌-◌, ◌*◌, ◌<◌, ◌≤◌, ◌^◌}
 use native.Mathlib.Omega.{arith}
 use lib.ListN.{get_or}
+use Rattle.std.specs.Prelude.{Option, Some, None}
 use Rattle.rules.specs.Limits.{MAX_AMOUNT_MICRO, ESCROWS, ESCROW_AMOUNT}
 use Rattle.rules.specs.Table.{word, loop}
 use Rattle.rules.specs.Ledger.{Ledger, ledger_of, escrow_count}
@@ -16,7 +17,8 @@ use Rattle.rules.proofs.Adds.{figures}
 use Rattle.rows.specs.Numbered.{Names}
 use Rattle.sweeping.proofs.Turns.{loop_none, loop_next, loop_full, escrow_full}
 use Rattle.adding.specs.Needs.{Expires}
-use Rattle.adding.specs.Turns.{expires, expired_rows, expired_amount, Ended, Receipted}
+use Rattle.adding.specs.Turns.{expires, expired_turn, Ended, Receipted}
+use Rattle.adding.proofs.Counted.{rows_of, amount_of, one_row, Counted}
 use Rattle.adding.proofs.Spent.{Spent, spent_start, spent_turn}
 
 -- after `number` escrows, of which `rows` are closed, and `amount` expires
@@ -45,45 +47,36 @@ module _ (ed : Edition) (h e : List ℕ) (time : ℕ) (s : Expires ed h e time) 
 
   module _ (limit rows amount number : ℕ) (far : SoFar ed h e time limit rows amount number) where
     -- the next escrow, as the code has it: by its number, which is one more
-    module _ (x y : ℕ) (l : number < get_or h ESCROWS 0) (m : rows < limit) (p : x ≡ expired_rows ed e time (number + 1 - 1))
-        (q : y ≡ expired_amount ed e time (number + 1 - 1)) where
-      i : number + 1 - 1 ≡ number
-      i = omega arith
+    module _ (o : Option ℕ) (l : number < get_or h ESCROWS 0) (p : o ≡ expired_turn ed e time (number + 1 - 1)) where
+      p' : o ≡ expired_turn ed e time number
+      p' = let i : number + 1 - 1 ≡ number = omega arith in p ∙ ap (expired_turn ed e time) i
 
-      p' : x ≡ expired_rows ed e time number
-      p' = p ∙ ap (expired_rows ed e time) i
-
-      q' : y ≡ expired_amount ed e time number
-      q' = q ∙ ap (expired_amount ed e time) i
-
-      pub row_small : x ≤ 1
-      unfolding expired_rows
-      row_small = subst (λ (n : ℕ). n ≤ 1) (sym p') (cond_case (λ (n : ℕ). n ≤ 1) (expires ed e time number) 1 0 (λ _. omega arith) (λ _. omega arith))
-
-      turn_small : y ≤ MAX_AMOUNT_MICRO
-      unfolding expired_amount
+      turn_small : amount_of o ≤ MAX_AMOUNT_MICRO
+      unfolding expired_turn
       turn_small =
           let L : Ledger = ledger_of ed h s.sweeps.wallets e s.receipts [] in
-          subst (λ (n : ℕ). n ≤ MAX_AMOUNT_MICRO) (sym q')
-          (cond_case (λ (n : ℕ). n ≤ MAX_AMOUNT_MICRO) (expires ed e time number) (word e ed.escrow number ESCROW_AMOUNT) 0
+          subst (λ (t : Option ℕ). amount_of t ≤ MAX_AMOUNT_MICRO) (sym p')
+          (cond_case (λ (t : Option ℕ). amount_of t ≤ MAX_AMOUNT_MICRO) (expires ed e time number) (Some (word e ed.escrow number ESCROW_AMOUNT)) None
           (λ _. amount_most L s.sweeps.sweeping.good number l) (λ _. omega arith))
 
-      pub amount_small : amount + y ≤ (number + 1) * MAX_AMOUNT_MICRO
+      pub amount_small : amount + amount_of o ≤ (number + 1) * MAX_AMOUNT_MICRO
       amount_small = omega (arith, far.small, turn_small)
 
-      pub next : SoFar ed h e time limit (rows + x) (amount + y) (number + 1)
-      next = record {
+      pub next : (n m : ℕ) → rows < limit → Counted o rows amount n m → SoFar ed h e time limit n m (number + 1)
+      next n m room c = record {
         written = omega arith;
-        room = omega (arith, row_small);
-        small = amount_small;
+        room = omega (arith, c.rows_so, one_row o);
+        small = omega (arith, c.amount_so, amount_small);
         spent = λ w r j S released a.
             let L : Ledger = ledger_of ed h w e r j in
             let T : Sweep = loop number (sweep_escrow time) S in
-            let z : limit - rows - x ≡ limit - (rows + x) = omega arith in
-            subst (λ (n : ℕ). Spent L time released (number + 1) n (amount + y) (loop (number + 1) (sweep_escrow time) S)) z
-            (subst (Spent L time released (number + 1) (limit - rows - x) (amount + y))
+            let z : limit - rows - rows_of o ≡ limit - n = omega (arith, c.rows_so) in
+            let y : amount + amount_of o ≡ m = sym c.amount_so in
+            subst (λ (k : ℕ). Spent L time released (number + 1) k m (loop (number + 1) (sweep_escrow time) S)) z
+            (subst (λ (k : ℕ). Spent L time released (number + 1) (limit - rows - rows_of o) k (loop (number + 1) (sweep_escrow time) S)) y
+            (subst (Spent L time released (number + 1) (limit - rows - rows_of o) (amount + amount_of o))
             (loop_next (sweep_escrow time) S T (sweep_escrow time number T) number number refl refl refl)
-            (spent_turn L time s.sweeps.sweeping.now released number (limit - rows) amount T l (far.spent w r j S released a) x y (omega arith) p' q'));
+            (spent_turn L time s.sweeps.sweeping.now released number (limit - rows) amount T l (far.spent w r j S released a) o (omega arith) p')));
       }
 
     -- no escrow is left, or no room

@@ -8,13 +8,14 @@ use Prim.Native.Nat.{ℕ, ◌-◌}
 use lib.ListN.{get_or, set}
 use lib.Dec.{eqb, ltb, leb}
 use borrow.Author.Tests.{eq-eqb, ne_eqb}
+use Rattle.std.specs.Prelude.{Some, None}
 use Rattle.rules.specs.Limits.{RECEIPT_LEN, IS_OPEN, PENDING, ESCROW_AMOUNT, ESCROW_DEADLINE, ESCROW_STATE, RECEIPT_LINK, ACCEPTANCE_DEADLINE, AUTO_ACCEPT, RECEIPT_STATE}
 use Rattle.rules.specs.Table.{word}
 use Rattle.rules.specs.Ledger.{Ledger, ledger_of, set_edition, set_escrows}
 use Rattle.rules.specs.Refusals.{releasable}
 use Rattle.rules.specs.declared.Edition.{Edition}
 use Rattle.rules.proofs.Bools.{and_intro, and_fst, and_snd, and_none_fst, and_none_snd}
-use Rattle.adding.specs.Turns.{linked, freed, frees_now, freed_now, marked_now, closes, closed_rows, closed_amount, closed_marks, expires, expired_rows, expired_amount}
+use Rattle.adding.specs.Turns.{linked, freed, frees_now, freed_now, marked_now, closes, closed_turn, closed_marks, expires, expired_turn}
 
 -- c says whether the escrow in row i is open and not stale
 abbrev Tested : Edition → List ℕ → Bool → ℕ → ℕ → Type 0
@@ -107,21 +108,19 @@ module _ (ed : Edition) (e r : List ℕ) (marks : List Bool) (time i state deadl
   closes_so = x ∙ ap₂ (λ (s t : ℕ). eqb s PENDING && ltb t time) p d
 
   pub turn_closed : (amount : ℕ) (marks₁ : List Bool) → b ≡ true → amount ≡ freed_now ed e r marks time i → marks₁ ≡ marked_now ed e r marks time i
-      → (1 ≡ closed_rows r time i) × (amount ≡ closed_amount ed e r marks time i) × (marks₁ ≡ closed_marks ed e r marks time i)
-  unfolding closed_rows closed_amount closed_marks
+      → (Some amount ≡ closed_turn ed e r marks time i) × (marks₁ ≡ closed_marks ed e r marks time i)
+  unfolding closed_turn closed_marks
   turn_closed amount marks₁ t q m =
       let due : true ≡ closes r time i = sym t ∙ closes_so in (
-        ap (λ (c : Bool). cond c 1 0) due,
-        q ∙ ap (λ (c : Bool). cond c (freed_now ed e r marks time i) 0) due,
+        ap (λ (k : ℕ). Some k) q ∙ ap (λ (c : Bool). cond c (Some (freed_now ed e r marks time i)) None) due,
         m ∙ ap (λ (c : Bool). cond c (marked_now ed e r marks time i) marks) due,
       )
 
-  pub turn_passed : b ≡ false → (0 ≡ closed_rows r time i) × (0 ≡ closed_amount ed e r marks time i) × (marks ≡ closed_marks ed e r marks time i)
-  unfolding closed_rows closed_amount closed_marks
+  pub turn_passed : b ≡ false → (None ≡ closed_turn ed e r marks time i) × (marks ≡ closed_marks ed e r marks time i)
+  unfolding closed_turn closed_marks
   turn_passed t =
       let due : false ≡ closes r time i = sym t ∙ closes_so in (
-        ap (λ (c : Bool). cond c 1 0) due,
-        ap (λ (c : Bool). cond c (freed_now ed e r marks time i) 0) due,
+        ap (λ (c : Bool). cond c (Some (freed_now ed e r marks time i)) None) due,
         ap (λ (c : Bool). cond c (marked_now ed e r marks time i) marks) due,
       )
 
@@ -132,14 +131,11 @@ module _ (ed : Edition) (e : List ℕ) (time i state deadline : ℕ) (b : Bool)
   expires_so : b ≡ expires ed e time i
   expires_so = x ∙ ap₂ (λ (s t : ℕ). eqb s IS_OPEN && ltb t time) p d
 
-  pub escrow_expired : (amount : ℕ) → b ≡ true → amount ≡ word e ed.escrow i ESCROW_AMOUNT → (1 ≡ expired_rows ed e time i) × (amount ≡ expired_amount ed e time i)
-  unfolding expired_rows expired_amount
+  pub escrow_expired : (amount : ℕ) → b ≡ true → amount ≡ word e ed.escrow i ESCROW_AMOUNT → Some amount ≡ expired_turn ed e time i
+  unfolding expired_turn
   escrow_expired amount t q =
-      let due : true ≡ expires ed e time i = sym t ∙ expires_so in
-      (ap (λ (c : Bool). cond c 1 0) due, q ∙ ap (λ (c : Bool). cond c (word e ed.escrow i ESCROW_AMOUNT) 0) due)
+      ap (λ (k : ℕ). Some k) q ∙ ap (λ (c : Bool). cond c (Some (word e ed.escrow i ESCROW_AMOUNT)) None) (sym t ∙ expires_so)
 
-  pub escrow_passed : b ≡ false → (0 ≡ expired_rows ed e time i) × (0 ≡ expired_amount ed e time i)
-  unfolding expired_rows expired_amount
-  escrow_passed t =
-      let due : false ≡ expires ed e time i = sym t ∙ expires_so in
-      (ap (λ (c : Bool). cond c 1 0) due, ap (λ (c : Bool). cond c (word e ed.escrow i ESCROW_AMOUNT) 0) due)
+  pub escrow_passed : b ≡ false → None ≡ expired_turn ed e time i
+  unfolding expired_turn
+  escrow_passed t = ap (λ (c : Bool). cond c (Some (word e ed.escrow i ESCROW_AMOUNT)) None) (sym t ∙ expires_so)

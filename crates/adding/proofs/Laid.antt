@@ -12,6 +12,7 @@ use lib.ListN.{get_or, set, length}
 use lib.Seq.{get_or-set_same, get_or-set_other}
 use lib.Dec.{eqb, ltb, lit<}
 use borrow.Author.Tests.{lt-ltb, eqb-false}
+use Rattle.std.specs.Prelude.{Option, Some, None}
 use Rattle.rules.specs.Limits.{LAST_TIME_MS, ESCROWS, RECEIPTS, IS_OPEN, RELEASED, REFUNDED, EXPIRED, ESCROW_AMOUNT, ESCROW_DEADLINE, ESCROW_STATE}
 use Rattle.rules.specs.Limits.{RECEIPT_LINK, AUTO_ACCEPT, RECEIPT_STATE}
 use Rattle.rules.specs.Table.{word}
@@ -27,7 +28,8 @@ use Rattle.rules.proofs.Stays.{kept_start, kept_then, row_kept, link_row, kept_d
 use Rattle.rules.proofs.SweepPlan.{leaves_due}
 use Rattle.rules.proofs.Onward.{Closes, onward_same, onward_then, closes_due_receipt}
 use Rattle.rules.proofs.Ended.{ended_none, ended_beside, ended_then, ended_end, end_other, end_word, end_state, releases, due_escrows, due_early}
-use Rattle.adding.specs.Turns.{frees_now, freed_now, marked_now, closed_rows, closed_amount, closed_marks, Ended, Receipted}
+use Rattle.adding.proofs.Counted.{rows_of, amount_of}
+use Rattle.adding.specs.Turns.{frees_now, freed_now, marked_now, closed_turn, closed_marks, Ended, Receipted}
 
 -- `number` receipts of L are passed
 pub record Laid (L : Ledger) (time : ℕ) (marks : List Bool) (number room amount : ℕ) (S : Sweep) : Type 0 where
@@ -199,24 +201,23 @@ module _ (L : Ledger) (time : ℕ) (now_right : time ≤ LAST_TIME_MS) (marks : 
   }
 
   -- THE TURN of a sweep that may still close a row
-  pub laid_turn : (marks₁ : List Bool) (x y : ℕ) → 0 < room
-      → x ≡ closed_rows L.receipts time number
-      → y ≡ closed_amount L.edition L.escrows L.receipts marks time number
+  pub laid_turn : (marks₁ : List Bool) (o : Option ℕ) → 0 < room
+      → o ≡ closed_turn L.edition L.escrows L.receipts marks time number
       → marks₁ ≡ closed_marks L.edition L.escrows L.receipts marks time number
-      → Laid L time marks₁ (number + 1) (room - x) (amount + y) (sweep_receipt time number S)
-  unfolding sweep_receipt closed_rows closed_amount closed_marks freed_now marked_now
-  laid_turn marks₁ x y some p q m = go (due_receipt L time number) refl p q m
+      → Laid L time marks₁ (number + 1) (room - rows_of o) (amount + amount_of o) (sweep_receipt time number S)
+  unfolding sweep_receipt closed_turn closed_marks freed_now marked_now
+  laid_turn marks₁ o some p m = go (due_receipt L time number) refl p m
     where
       T : Sweep → Type 0
-      T = Laid L time marks₁ (number + 1) (room - x) (amount + y)
+      T = Laid L time marks₁ (number + 1) (room - rows_of o) (amount + amount_of o)
 
-      go : (c : Bool) → due_receipt L time number ≡ c → x ≡ cond c 1 0 → y ≡ cond c (cond b (escrow L k ESCROW_AMOUNT) 0) 0
+      go : (c : Bool) → due_receipt L time number ≡ c → o ≡ cond c (Some (cond b (escrow L k ESCROW_AMOUNT) 0)) None
           → marks₁ ≡ cond c (cond b (set marks k true) marks) marks → T (cond (ltb 0 S.room && due_receipt M time number) (one_more S N) S)
-      go true t p q m =
+      go true t p m =
           let here : (ltb 0 S.room && due_receipt M time number) ≡ true =
           and_intro _ _ (lt-ltb 0 S.room (omega (arith, a.receipted.room))) (a.dues number (le_refl number) ∙ t) in
-          subst (λ (d : Bool). T (cond d (one_more S N) S)) (sym here) (laid_closed marks₁ x y m p q)
-      go false t p q m =
+          subst (λ (d : Bool). T (cond d (one_more S N) S)) (sym here) (laid_closed marks₁ (rows_of o) (amount_of o) m (ap rows_of p) (ap amount_of p))
+      go false t p m =
           let here : (ltb 0 S.room && due_receipt M time number) ≡ false =
           and_none_snd (ltb 0 S.room) (due_receipt M time number) (a.dues number (le_refl number) ∙ t) in
-          subst (λ (d : Bool). T (cond d (one_more S N) S)) (sym here) (laid_passed marks₁ x y m p q)
+          subst (λ (d : Bool). T (cond d (one_more S N) S)) (sym here) (laid_passed marks₁ (rows_of o) (amount_of o) m (ap rows_of p) (ap amount_of p))

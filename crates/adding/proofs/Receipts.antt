@@ -8,6 +8,7 @@ use native.Mathlib.Omega.{arith}
 use lib.ListN.{get_or, length, set, length-set}
 use lib.Dec.{eqb}
 use borrow.Author.Tests.{eqb-false}
+use Rattle.std.specs.Prelude.{Option, Some, None}
 use Rattle.rules.specs.Limits.{MAX_ESCROWS, MAX_AMOUNT_MICRO, RECEIPTS, ESCROW_AMOUNT, RECEIPT_LINK, AUTO_ACCEPT}
 use Rattle.rules.specs.Table.{loop}
 use Rattle.rules.specs.Ledger.{Ledger, ledger_of, escrow, receipt}
@@ -19,7 +20,8 @@ use Rattle.rules.proofs.Stays.{link_row}
 use Rattle.rows.specs.Numbered.{Names}
 use Rattle.sweeping.proofs.Turns.{loop_none, loop_next, loop_full, receipt_full}
 use Rattle.adding.specs.Needs.{Links, Sweeps}
-use Rattle.adding.specs.Turns.{linked, frees_now, freed_now, marked_now, closes, closed_rows, closed_amount, closed_marks, Unmarked, Receipted}
+use Rattle.adding.specs.Turns.{linked, frees_now, freed_now, marked_now, closes, closed_turn, closed_marks, Unmarked, Receipted}
+use Rattle.adding.proofs.Counted.{rows_of, amount_of, one_row, Counted}
 use Rattle.adding.proofs.Laid.{Laid, laid_start, laid_turn}
 
 -- after `number` receipts, of which `rows` are closed, and `amount` is released
@@ -66,11 +68,13 @@ module _ (ed : Edition) (h e r : List ℕ) (time : ℕ) (s : Sweeps ed h e r tim
       (eqb-false n 0 (not_true_false (eqb n 0) (and_fst (not (eqb n 0)) _ (and_snd (eqb (receipt L₀ number AUTO_ACCEPT) 1) _ t))))))
       (λ t. omega arith)
 
-  turn_small : (marks : List Bool) (number y : ℕ) → number < get_or h RECEIPTS 0 → y ≡ closed_amount ed e r marks time number → y ≤ MAX_AMOUNT_MICRO
-  unfolding closed_amount
-  turn_small marks number y l q =
-      subst (λ (x : ℕ). x ≤ MAX_AMOUNT_MICRO) (sym q)
-      (cond_case (λ (x : ℕ). x ≤ MAX_AMOUNT_MICRO) (closes r time number) (freed_now ed e r marks time number) 0 (λ t. freed_small marks number l) (λ t. omega arith))
+  turn_small : (marks : List Bool) (number : ℕ) (o : Option ℕ) → number < get_or h RECEIPTS 0 → o ≡ closed_turn ed e r marks time number
+      → amount_of o ≤ MAX_AMOUNT_MICRO
+  unfolding closed_turn
+  turn_small marks number o l q =
+      subst (λ (t : Option ℕ). amount_of t ≤ MAX_AMOUNT_MICRO) (sym q)
+      (cond_case (λ (t : Option ℕ). amount_of t ≤ MAX_AMOUNT_MICRO) (closes r time number) (Some (freed_now ed e r marks time number)) None
+      (λ t. freed_small marks number l) (λ t. omega arith))
 
   -- the marks have their places still
   marks_stay : (marks marks₁ : List Bool) (number : ℕ) → marks₁ ≡ closed_marks ed e r marks time number → length marks₁ ≡ length marks
@@ -84,44 +88,37 @@ module _ (ed : Edition) (h e r : List ℕ) (time : ℕ) (s : Sweeps ed h e r tim
 
   module _ (limit rows amount number : ℕ) (marks : List Bool) (far : SoFar ed h e r time limit rows amount number marks) where
     -- the next receipt, as the code has it: by its number, which is one more
-    module _ (marks₁ : List Bool) (x y : ℕ) (l : number < get_or h RECEIPTS 0) (m : rows < limit)
-        (p : x ≡ closed_rows r time (number + 1 - 1)) (q : y ≡ closed_amount ed e r marks time (number + 1 - 1))
-        (t : marks₁ ≡ closed_marks ed e r marks time (number + 1 - 1)) where
+    module _ (marks₁ : List Bool) (o : Option ℕ) (l : number < get_or h RECEIPTS 0) (p : o ≡ closed_turn ed e r marks time (number + 1 - 1)) where
       i : number + 1 - 1 ≡ number
       i = omega arith
 
-      p' : x ≡ closed_rows r time number
-      p' = p ∙ ap (closed_rows r time) i
+      p' : o ≡ closed_turn ed e r marks time number
+      p' = p ∙ ap (closed_turn ed e r marks time) i
 
-      q' : y ≡ closed_amount ed e r marks time number
-      q' = q ∙ ap (closed_amount ed e r marks time) i
+      pub amount_small : amount + amount_of o ≤ (number + 1) * MAX_AMOUNT_MICRO
+      amount_small = omega (arith, far.small, turn_small marks number o l p')
 
-      t' : marks₁ ≡ closed_marks ed e r marks time number
-      t' = t ∙ ap (closed_marks ed e r marks time) i
-
-      pub row_small : x ≤ 1
-      unfolding closed_rows
-      row_small = subst (λ (n : ℕ). n ≤ 1) (sym p') (cond_case (λ (n : ℕ). n ≤ 1) (closes r time number) 1 0 (λ _. omega arith) (λ _. omega arith))
-
-      pub amount_small : amount + y ≤ (number + 1) * MAX_AMOUNT_MICRO
-      amount_small = omega (arith, far.small, turn_small marks number y l q')
-
-      pub next : SoFar ed h e r time limit (rows + x) (amount + y) (number + 1) marks₁
-      next = record {
-        written = omega arith;
-        room = omega (arith, row_small);
-        small = amount_small;
-        places = marks_stay marks marks₁ number t' ∙ far.places;
-        laid = λ w j g.
-            let L : Ledger = ledger_of ed h w e r j in
-            let S : Sweep = loop number (sweep_receipt time) (sweep_start limit L) in
-            let z : limit - rows - x ≡ limit - (rows + x) = omega arith in
-            subst (λ (n : ℕ). Laid L time marks₁ (number + 1) n (amount + y) (loop (number + 1) (sweep_receipt time) (sweep_start limit L))) z
-            (subst (Laid L time marks₁ (number + 1) (limit - rows - x) (amount + y))
-            (loop_next (sweep_receipt time) (sweep_start limit L) S (sweep_receipt time number S) number number refl refl refl)
-            (laid_turn L time s.sweeping.now marks number (limit - rows) amount S g (omega (arith, s.sweeping.small.escrows, far.places)) l (far.laid w j g) marks₁ x y
-            (omega arith) p' q' t'));
-      }
+      pub next : (n m : ℕ) → rows < limit → marks₁ ≡ closed_marks ed e r marks time (number + 1 - 1) → Counted o rows amount n m
+          → SoFar ed h e r time limit n m (number + 1) marks₁
+      next n m room t c =
+          let t' : marks₁ ≡ closed_marks ed e r marks time number = t ∙ ap (closed_marks ed e r marks time) i in
+          record {
+            written = omega arith;
+            room = omega (arith, c.rows_so, one_row o);
+            small = omega (arith, c.amount_so, amount_small);
+            places = marks_stay marks marks₁ number t' ∙ far.places;
+            laid = λ w j g.
+                let L : Ledger = ledger_of ed h w e r j in
+                let S : Sweep = loop number (sweep_receipt time) (sweep_start limit L) in
+                let z : limit - rows - rows_of o ≡ limit - n = omega (arith, c.rows_so) in
+                let y : amount + amount_of o ≡ m = sym c.amount_so in
+                subst (λ (k : ℕ). Laid L time marks₁ (number + 1) k m (loop (number + 1) (sweep_receipt time) (sweep_start limit L))) z
+                (subst (λ (k : ℕ). Laid L time marks₁ (number + 1) (limit - rows - rows_of o) k (loop (number + 1) (sweep_receipt time) (sweep_start limit L))) y
+                (subst (Laid L time marks₁ (number + 1) (limit - rows - rows_of o) (amount + amount_of o))
+                (loop_next (sweep_receipt time) (sweep_start limit L) S (sweep_receipt time number S) number number refl refl refl)
+                (laid_turn L time s.sweeping.now marks number (limit - rows) amount S g (omega (arith, s.sweeping.small.escrows, far.places)) l (far.laid w j g) marks₁ o
+                (omega arith) p' t')));
+          }
 
     -- no receipt is left, or no room
     pub ended : get_or h RECEIPTS 0 ≤ number

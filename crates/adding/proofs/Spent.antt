@@ -9,6 +9,7 @@ use native.Mathlib.Omega.{arith}
 use lib.ListN.{get_or}
 use lib.Dec.{eqb, ltb}
 use borrow.Author.Tests.{lt-ltb}
+use Rattle.std.specs.Prelude.{Option, Some, None}
 use Rattle.rules.specs.Limits.{LAST_TIME_MS, ESCROWS, ESCROW_AMOUNT, ESCROW_STATE, IS_OPEN, RELEASED, REFUNDED, EXPIRED}
 use Rattle.rules.specs.Ledger.{Ledger, escrow, escrow_count}
 use Rattle.rules.specs.Settle.{Sweep, one_more, due_escrow, close_due_escrow, sweep_escrow}
@@ -18,7 +19,8 @@ use Rattle.rules.proofs.Stays.{kept_then, row_kept, kept_due_escrow}
 use Rattle.rules.proofs.SweepPlan.{escrow_frame}
 use Rattle.rules.proofs.Onward.{Closes, onward_then, closes_due_escrow}
 use Rattle.rules.proofs.Ended.{ended_then, ended_end}
-use Rattle.adding.specs.Turns.{expired_rows, expired_amount, Ended, Receipted}
+use Rattle.adding.proofs.Counted.{rows_of, amount_of}
+use Rattle.adding.specs.Turns.{expired_turn, Ended, Receipted}
 
 -- `number` escrows of L are passed
 pub record Spent (L : Ledger) (time r number n amount : ℕ) (S : Sweep) : Type 0 where
@@ -82,21 +84,21 @@ module _ (L : Ledger) (time : ℕ) (now_right : time ≤ LAST_TIME_MS) (r number
   }
 
   -- THE TURN of a sweep that may still close a row
-  pub spent_turn : (x y : ℕ) → 0 < n → x ≡ expired_rows L.edition L.escrows time number → y ≡ expired_amount L.edition L.escrows time number
-      → Spent L time r (number + 1) (n - x) (amount + y) (sweep_escrow time number S)
-  unfolding sweep_escrow expired_rows expired_amount
-  spent_turn x y some p q = go (due_escrow L time number) refl p q
+  pub spent_turn : (o : Option ℕ) → 0 < n → o ≡ expired_turn L.edition L.escrows time number
+      → Spent L time r (number + 1) (n - rows_of o) (amount + amount_of o) (sweep_escrow time number S)
+  unfolding sweep_escrow expired_turn
+  spent_turn o some p = go (due_escrow L time number) refl p
     where
       T : Sweep → Type 0
-      T = Spent L time r (number + 1) (n - x) (amount + y)
+      T = Spent L time r (number + 1) (n - rows_of o) (amount + amount_of o)
 
-      go : (c : Bool) → due_escrow L time number ≡ c → x ≡ cond c 1 0 → y ≡ cond c (escrow L number ESCROW_AMOUNT) 0
+      go : (c : Bool) → due_escrow L time number ≡ c → o ≡ cond c (Some (escrow L number ESCROW_AMOUNT)) None
           → T (cond (ltb 0 S.room && due_escrow M time number) (one_more S N) S)
-      go true t p q =
+      go true t p =
           let due : due_escrow M time number ≡ true = a.due number (le_refl number) ∙ t in
           let here : (ltb 0 S.room && due_escrow M time number) ≡ true = and_intro _ _ (lt-ltb 0 S.room (omega (arith, a.room))) due in
-          subst (λ (d : Bool). T (cond d (one_more S N) S)) (sym here) (spent_closed due x y p q)
-      go false t p q =
+          subst (λ (d : Bool). T (cond d (one_more S N) S)) (sym here) (spent_closed due (rows_of o) (amount_of o) (ap rows_of p) (ap amount_of p))
+      go false t p =
           let here : (ltb 0 S.room && due_escrow M time number) ≡ false =
           and_none_snd (ltb 0 S.room) (due_escrow M time number) (a.due number (le_refl number) ∙ t) in
-          subst (λ (d : Bool). T (cond d (one_more S N) S)) (sym here) (spent_passed x y p q)
+          subst (λ (d : Bool). T (cond d (one_more S N) S)) (sym here) (spent_passed (rows_of o) (amount_of o) (ap rows_of p) (ap amount_of p))

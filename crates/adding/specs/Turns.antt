@@ -1,6 +1,6 @@
 -- A sweep laid out on the tables as they were before it. Which escrows it has released so far is kept as marks, one for each row of
 -- escrows, false until its escrow is released: the state of an escrow in the sweep is then known without closing anything.
-use Rattle.std.specs.Prelude.{◌≡◌, List, Bool, true, false, not, cond, ◌&&◌, ℕ, ◌-◌, get_or, set, length, eqb, ltb, leb}
+use Rattle.std.specs.Prelude.{◌≡◌, List, Option, Some, None, Bool, true, false, not, cond, ◌&&◌, ℕ, ◌-◌, get_or, set, length, eqb, ltb, leb}
 use Rattle.rules.specs.Limits.{RECEIPT_LEN, MAX_ESCROWS, IS_OPEN, RELEASED, REFUNDED, EXPIRED, PENDING, ESCROW_AMOUNT, ESCROW_DEADLINE, ESCROW_STATE}
 use Rattle.rules.specs.Limits.{RECEIPT_LINK, ACCEPTANCE_DEADLINE, AUTO_ACCEPT, RECEIPT_STATE}
 use Rattle.rules.specs.Table.{word}
@@ -47,12 +47,9 @@ freed_now ed escrows receipts marks time i =
 unfoldable pub marked_now : Edition → List ℕ → List ℕ → List Bool → ℕ → ℕ → List Bool
 marked_now ed escrows receipts marks time i = cond (frees_now ed escrows receipts marks time i) (set marks (linked receipts i) true) marks
 
--- a turn of the sweep: how many rows it closes, what it releases, and the marks after it
-unfoldable pub closed_rows : List ℕ → ℕ → ℕ → ℕ
-closed_rows receipts time i = cond (closes receipts time i) 1 0
-
-unfoldable pub closed_amount : Edition → List ℕ → List ℕ → List Bool → ℕ → ℕ → ℕ
-closed_amount ed escrows receipts marks time i = cond (closes receipts time i) (freed_now ed escrows receipts marks time i) 0
+-- a turn of the sweep: what it releases, if it closes its row, and the marks after it
+unfoldable pub closed_turn : Edition → List ℕ → List ℕ → List Bool → ℕ → ℕ → Option ℕ
+closed_turn ed escrows receipts marks time i = cond (closes receipts time i) (Some (freed_now ed escrows receipts marks time i)) None
 
 unfoldable pub closed_marks : Edition → List ℕ → List ℕ → List Bool → ℕ → ℕ → List Bool
 closed_marks ed escrows receipts marks time i = cond (closes receipts time i) (marked_now ed escrows receipts marks time i) marks
@@ -62,11 +59,8 @@ abbrev pub expires : Edition → List ℕ → ℕ → ℕ → Bool
 expires ed escrows time i =
     eqb (word escrows ed.escrow i ESCROW_STATE) IS_OPEN && ltb (word escrows ed.escrow i ESCROW_DEADLINE) time
 
-unfoldable pub expired_rows : Edition → List ℕ → ℕ → ℕ → ℕ
-expired_rows ed escrows time i = cond (expires ed escrows time i) 1 0
-
-unfoldable pub expired_amount : Edition → List ℕ → ℕ → ℕ → ℕ
-expired_amount ed escrows time i = cond (expires ed escrows time i) (word escrows ed.escrow i ESCROW_AMOUNT) 0
+unfoldable pub expired_turn : Edition → List ℕ → ℕ → ℕ → Option ℕ
+expired_turn ed escrows time i = cond (expires ed escrows time i) (Some (word escrows ed.escrow i ESCROW_AMOUNT)) None
 
 -- a mark for each escrow that there can be, and nothing is marked yet
 pub record Unmarked (marks : List Bool) : Type 0 where

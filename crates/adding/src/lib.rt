@@ -14,7 +14,7 @@ ghost use Rattle.rules.proofs.Adds.{figures};
 ghost use Rattle.rows.specs.Numbered.{Names};
 ghost use Rattle.settling.specs.Needs.{Settles};
 ghost use Rattle.adding.specs.Needs.{Adds, Links, Sweeps, Expires};
-ghost use Rattle.adding.specs.Turns.{freed, freed_now, marked_now, closed_rows, closed_amount, closed_marks, expired_rows, expired_amount, Unmarked, Ended, Receipted};
+ghost use Rattle.adding.specs.Turns.{freed, freed_now, marked_now, closed_turn, closed_marks, expired_turn, Unmarked, Ended, Receipted};
 
 use rows::numbered;
 use rules::limits::{
@@ -82,7 +82,7 @@ fn auto_accepted(
     0
 }
 
-// One receipt of a sweep that may still close a row.
+// One receipt of a sweep that may still close a row: what it releases, if it is due.
 fn receipt_turn(
     edition: Edition,
     escrows: &[u64],
@@ -90,17 +90,17 @@ fn receipt_turn(
     marks: &mut [bool; MAX_ESCROWS],
     number: ReceiptNumber,
     time: u64,
-) -> Closed
+) -> Option<u64>
     requires { Names number.0 × Links edition receipts.now (number.0 - 1) }
-    ensures { (result.rows ≡ closed_rows receipts.now time (number.0 - 1)) × (result.amount ≡ closed_amount edition escrows.now receipts.now marks.old time (number.0 - 1)) × (marks.new ≡ closed_marks edition escrows.now receipts.now marks.old time (number.0 - 1)) }
+    ensures { (result ≡ closed_turn edition escrows.now receipts.now marks.old time (number.0 - 1)) × (marks.new ≡ closed_marks edition escrows.now receipts.now marks.old time (number.0 - 1)) }
 {
     let state = numbered::receipt(receipts, number, RECEIPT_STATE);
     let deadline = numbered::receipt(receipts, number, ACCEPTANCE_DEADLINE);
     if sweeping::is_due(state, PENDING, deadline, time) {
         let amount = auto_accepted(edition, escrows, receipts, marks, number, time);
-        return Closed { rows: 1, amount };
+        return Some(amount);
     }
-    Closed { rows: 0, amount: 0 }
+    None
 }
 
 // All receipts in row order, while there is room: how many are closed, and what they release.
@@ -124,25 +124,26 @@ fn receipt_turns(
             break;
         }
         let number = ReceiptNumber(row + 1);
-        let turn = receipt_turn(edition, escrows, receipts, marks, number, time);
-        rows += turn.rows;
-        amount += turn.amount;
+        if let Some(released) = receipt_turn(edition, escrows, receipts, marks, number, time) {
+            rows += 1;
+            amount += released;
+        }
     }
     Closed { rows, amount }
 }
 
 // One escrow, likewise: its amount, if it expires.
-fn escrow_turn(edition: Edition, escrows: &[u64], number: EscrowNumber, time: u64) -> Closed
+fn escrow_turn(edition: Edition, escrows: &[u64], number: EscrowNumber, time: u64) -> Option<u64>
     requires { Names number.0 × (edition.escrow < 2 ^ 16) }
-    ensures { (result.rows ≡ expired_rows edition escrows.now time (number.0 - 1)) × (result.amount ≡ expired_amount edition escrows.now time (number.0 - 1)) }
+    ensures { result ≡ expired_turn edition escrows.now time (number.0 - 1) }
 {
     let state = numbered::escrow(edition, escrows, number, ESCROW_STATE);
     let deadline = numbered::escrow(edition, escrows, number, ESCROW_DEADLINE);
     if sweeping::is_due(state, IS_OPEN, deadline, time) {
         let amount = numbered::escrow(edition, escrows, number, ESCROW_AMOUNT);
-        return Closed { rows: 1, amount };
+        return Some(amount);
     }
-    Closed { rows: 0, amount: 0 }
+    None
 }
 
 // All escrows in row order, while there is room: what expires. An escrow that the receipts release is not stale, so it is not due before
@@ -158,9 +159,10 @@ fn escrow_turns(edition: Edition, header: &[u64], escrows: &[u64], time: u64, li
         if limit <= rows {
             break;
         }
-        let turn = escrow_turn(edition, escrows, EscrowNumber(row + 1), time);
-        rows += turn.rows;
-        amount += turn.amount;
+        if let Some(expired) = escrow_turn(edition, escrows, EscrowNumber(row + 1), time) {
+            rows += 1;
+            amount += expired;
+        }
     }
     amount
 }

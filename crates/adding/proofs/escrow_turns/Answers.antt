@@ -1,29 +1,29 @@
 -- `adding::escrow_turns` meets its contract. The invariant: so far the definition's loop has spent this much.
+use mathlib.Core.Path.{sym, ◌∙◌}
 use native.Mathlib.Omega.{arith}
-use Rattle.adding.proofs.Escrows.{start, can_turn, row_small, amount_small, next, ended, full}
+use Rattle.adding.proofs.Counted.{counted_some, counted_none}
+use Rattle.adding.proofs.Escrows.{start, can_turn, amount_small, next, ended, full}
 use Rattle.adding.proofs.escrow_turns.Goals as goal
+use Rattle.adding.proofs.escrow_turns.Goals.{in-Some, in_default}
 
 pub loop-row-init : goal.loop-row-init
 loop-row-init c = start _ _ _ _ _
 
-pub escrow_turn-turn-requires : goal.escrow_turn-turn-requires
-escrow_turn-turn-requires c =
-    can_turn _ _ _ _ c.requires _ c.loop-row-test.true
-
-pub overflow_add-rows : goal.overflow_add-rows
-overflow_add-rows c =
-    let row = c.escrow_turn-turn in
-    omega (arith, row_small _ _ _ _ c.requires _ _ _ _ c.loop-row.invariant _ _ c.loop-row-test.true c.if-limit-rows.false row.ensures.0 row.ensures.1)
+pub escrow_turn-requires : goal.escrow_turn-requires
+escrow_turn-requires c = can_turn _ _ _ _ c.requires _ c.loop-row-test.true
 
 pub overflow_add-amount : goal.overflow_add-amount
 overflow_add-amount c =
-    let row = c.escrow_turn-turn in
-    omega (arith, c.requires.sweeps.sweeping.small.escrows, amount_small _ _ _ _ c.requires _ _ _ _ c.loop-row.invariant _ _ c.loop-row-test.true c.if-limit-rows.false row.ensures.0 row.ensures.1)
+    omega (arith, c.requires.sweeps.sweeping.small.escrows,
+    amount_small _ _ _ _ c.requires _ _ _ _ c.loop-row.invariant _ c.loop-row-test.true (sym c.in-Some.is ∙ c.escrow_turn.ensures))
 
 pub loop-row-preserved : goal.loop-row-preserved
 loop-row-preserved c =
-    let row = c.escrow_turn-turn in
-    next _ _ _ _ c.requires _ _ _ _ c.loop-row.invariant _ _ c.loop-row-test.true c.if-limit-rows.false row.ensures.0 row.ensures.1
+    next _ _ _ _ c.requires _ _ _ _ c.loop-row.invariant _ c.loop-row-test.true c.escrow_turn.ensures _ _ c.if-limit-rows.false
+    (elim c.match-escrow_turn.branch [
+      in-Some w ↦ counted_some _ _ _ _ _ _ w.in-Some.is w.rows-is w.amount-is
+    | in_default w ↦ counted_none _ _ _ _ _ w.in_default.not-Some w.rows-is w.amount-is
+    ])
 
 pub returns-after-loop-row : goal.returns-after-loop-row
 returns-after-loop-row c =

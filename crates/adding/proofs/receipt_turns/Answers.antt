@@ -1,29 +1,30 @@
 -- `adding::receipt_turns` meets its contract. The invariant: so far the definition's loop is laid out.
+use mathlib.Core.Path.{sym, ◌∙◌}
 use native.Mathlib.Omega.{arith}
-use Rattle.adding.proofs.Receipts.{start, can_turn, row_small, amount_small, next, ended, full}
+use Rattle.adding.proofs.Counted.{counted_some, counted_none}
+use Rattle.adding.proofs.Receipts.{start, can_turn, amount_small, next, ended, full}
 use Rattle.adding.proofs.receipt_turns.Goals as goal
+use Rattle.adding.proofs.receipt_turns.Goals.{in-Some, in_default}
 
 pub loop-row-init : goal.loop-row-init
 loop-row-init c = start _ _ _ _ _ _ _ c.requires.1
 
-pub receipt_turn-turn-requires : goal.receipt_turn-turn-requires
-receipt_turn-turn-requires c =
-    can_turn _ _ _ _ _ c.requires.0 _ c.loop-row-test.true
-
-pub overflow_add-rows : goal.overflow_add-rows
-overflow_add-rows c =
-    let row = c.receipt_turn-turn in
-    omega (arith, row_small _ _ _ _ _ c.requires.0 _ _ _ _ _ c.loop-row.invariant _ _ _ c.loop-row-test.true c.if-limit-rows.false row.ensures.0 row.ensures.1 row.ensures.2)
+pub receipt_turn-requires : goal.receipt_turn-requires
+receipt_turn-requires c = can_turn _ _ _ _ _ c.requires.0 _ c.loop-row-test.true
 
 pub overflow_add-amount : goal.overflow_add-amount
 overflow_add-amount c =
-    let row = c.receipt_turn-turn in
-    omega (arith, c.requires.0.sweeping.small.receipts, amount_small _ _ _ _ _ c.requires.0 _ _ _ _ _ c.loop-row.invariant _ _ _ c.loop-row-test.true c.if-limit-rows.false row.ensures.0 row.ensures.1 row.ensures.2)
+    omega (arith, c.requires.0.sweeping.small.receipts,
+    amount_small _ _ _ _ _ c.requires.0 _ _ _ _ _ c.loop-row.invariant c.receipt_turn.new.marks _ c.loop-row-test.true (sym c.in-Some.is ∙ c.receipt_turn.ensures.0))
 
 pub loop-row-preserved : goal.loop-row-preserved
 loop-row-preserved c =
-    let row = c.receipt_turn-turn in
-    next _ _ _ _ _ c.requires.0 _ _ _ _ _ c.loop-row.invariant _ _ _ c.loop-row-test.true c.if-limit-rows.false row.ensures.0 row.ensures.1 row.ensures.2
+    let turn = c.receipt_turn.ensures in
+    next _ _ _ _ _ c.requires.0 _ _ _ _ _ c.loop-row.invariant _ _ c.loop-row-test.true turn.0 _ _ c.if-limit-rows.false turn.1
+    (elim c.match-receipt_turn.branch [
+      in-Some w ↦ counted_some _ _ _ _ _ _ w.in-Some.is w.rows-is w.amount-is
+    | in_default w ↦ counted_none _ _ _ _ _ w.in_default.not-Some w.rows-is w.amount-is
+    ])
 
 pub returns-after-loop-row : goal.returns-after-loop-row
 returns-after-loop-row c =
