@@ -1,9 +1,11 @@
 -- What the contracts of the index say. An index is two arrays: the wallets' ids by their numbers, and places, each of which proposes a number,
 -- or 0 for none. The walk of an id starts at a root, by its low bits, and goes on to a branch of the wallet that it meets, by the next bits.
-use Rattle.std.specs.Prelude.{◌≡◌, Bool, true, not, cond, List, ℕ, zero, suc, ◌+◌, ◌*◌, ◌%◌, ◌/◌, ◌≤◌, ◌<◌, eqb, ltb, get_or, set, length, Option, is_some}
+use Rattle.std.specs.Prelude.{◌≡◌, Bool, true, not, cond, List, ℕ, zero, suc, ◌+◌, ◌*◌, ◌%◌, ◌/◌, ◌≤◌, ◌<◌, eqb, ltb, get_or, set, length, Option, None, Some, is_some}
 use Rattle.rules.specs.Limits.{WALLET_LEN, MAX_WALLETS, ID}
 use Rattle.rules.specs.Table.{word, distinct}
 use Rattle.rules.specs.Ledger.{row_of}
+use Rattle.rules.specs.Wallets.{numbered}
+use Rattle.rules.specs.declared.WalletNumber.{WalletNumber}
 
 abbrev pub ROOTS : ℕ
 ROOTS = 8192
@@ -62,10 +64,15 @@ pub record Filled (ids : List ℕ) (n : ℕ) (t : List ℕ) (most : Option ℕ) 
   pub within : Within n t
   pub right : is_some most ≡ distinct n (id_at ids)
 
--- a number that has the id x, or 0
+-- a wallet's number that has the id x
 pub record Hit (ids : List ℕ) (n x r : ℕ) : Type 0 where
-  pub within : r ≤ n
-  pub has : 0 < r → get_or ids r 0 ≡ x
+  pub low : 0 < r
+  pub high : r ≤ n
+  pub has : get_or ids r 0 ≡ x
+
+-- the number s as a wallet's, if it is one
+abbrev pub wallet_number : ℕ → Option WalletNumber
+wallet_number s = cond (eqb s 0) None (Some (record { 0 = s }))
 
 -- what a look-up goes by
 pub record Indexed (w : List ℕ) (n : ℕ) (ids t : List ℕ) : Type 0 where
@@ -75,10 +82,10 @@ pub record Indexed (w : List ℕ) (n : ℕ) (ids t : List ℕ) : Type 0 where
   pub apart : distinct n (id_at ids) ≡ true
   pub within : Within n t
 
--- the number of the wallet of id x, among the first n; 0 if there is none
-unfoldable pub number_of : List ℕ → ℕ → ℕ → ℕ
-number_of w n x = cond (ltb (row_of w n x) n) (row_of w n x + 1) 0
+-- the number of the wallet of id x, among the first n, if there is one
+unfoldable pub number_of : List ℕ → ℕ → ℕ → Option WalletNumber
+number_of w n x = cond (ltb (row_of w n x) n) (Some (numbered (row_of w n x))) None
 
 -- the number of the wallet of `from`, where `to` has a wallet too
-unfoldable pub sender_of : List ℕ → ℕ → ℕ → ℕ → ℕ
-sender_of w n from to = cond (ltb (row_of w n to) n) (number_of w n from) 0
+unfoldable pub sender_of : List ℕ → ℕ → ℕ → ℕ → Option WalletNumber
+sender_of w n from to = cond (ltb (row_of w n to) n) (number_of w n from) None

@@ -6,7 +6,7 @@ ghost use Rattle.std.specs.Prelude.{◌≡◌, true, ◌+◌, ◌*◌, ◌≤◌
 ghost use Rattle.rules.specs.Limits;
 ghost use Rattle.index.specs.Index;
 ghost use Rattle.rules.specs.Table.{every, distinct};
-ghost use Rattle.index.specs.Index.{id_at, differs, Copied, Within, Seated, Filled, Hit, Indexed, number_of, sender_of};
+ghost use Rattle.index.specs.Index.{id_at, differs, Copied, Within, Seated, Filled, Hit, Indexed, wallet_number, number_of, sender_of};
 
 use rules::limits::{ID, MAX_WALLETS, WALLET_LEN};
 use rules::{WalletNumber, WalletState};
@@ -117,36 +117,35 @@ fn branch(t: &[u16; PLACES], n: usize, s: usize, y: usize) -> usize
     usize::from(t[ROOTS + s * BRANCHES + y % BRANCHES])
 }
 
-// What the index proposes for the id x, by the first steps of its walk; 0 for nothing.
-fn near(ids: &[u64; NUMBERS], t: &[u16; PLACES], n: usize, x: u64) -> usize
-    requires { (n ≤ Limits.MAX_WALLETS) × Within n t.now }
-    ensures { Hit ids.now n x result }
+// The number s, if it is a wallet's.
+fn number(s: usize) -> Option<WalletNumber>
+    ensures { result ≡ wallet_number s }
 {
-    let a = root(t, n, x as usize);
-    if ids[a] == x {
-        return a;
+    (s != 0).then_some(WalletNumber(s as u64))
+}
+
+// What the index proposes for the id x, by the first steps of its walk.
+fn near(ids: &[u64; NUMBERS], t: &[u16; PLACES], n: usize, x: u64) -> Option<WalletNumber>
+    requires { (n ≤ Limits.MAX_WALLETS) × Within n t.now }
+    ensures { IfSome result (λ number. Hit ids.now n x number.0) }
+{
+    let mut a = root(t, n, x as usize);
+    let mut y = x as usize / ROOTS;
+    for _ in 0..NEAR {
+        if ids[a] == x {
+            return number(a);
+        }
+        a = branch(t, n, a, y);
+        y /= BRANCHES;
     }
-    let y = x as usize / ROOTS;
-    let b = branch(t, n, a, y);
-    if ids[b] == x {
-        return b;
-    }
-    let c = branch(t, n, b, y / BRANCHES);
-    if ids[c] == x {
-        return c;
-    }
-    let d = branch(t, n, c, y / BRANCHES / BRANCHES);
-    if ids[d] == x {
-        return d;
-    }
-    0
+    None
 }
 
 // The same by every step that a walk can take, with no branch that depends on the id: a branch that the ids make hard to foresee would cost
 // more than the steps it saves.
-fn far(ids: &[u64; NUMBERS], t: &[u16; PLACES], n: usize, x: u64) -> usize
+fn far(ids: &[u64; NUMBERS], t: &[u16; PLACES], n: usize, x: u64) -> Option<WalletNumber>
     requires { (n ≤ Limits.MAX_WALLETS) × Within n t.now }
-    ensures { Hit ids.now n x result }
+    ensures { IfSome result (λ number. Hit ids.now n x number.0) }
 {
     let mut s = root(t, n, x as usize);
     let mut y = x as usize / ROOTS;
@@ -158,38 +157,51 @@ fn far(ids: &[u64; NUMBERS], t: &[u16; PLACES], n: usize, x: u64) -> usize
         s = branch(t, n, s, y);
         y /= BRANCHES;
     }
-    hit
+    number(hit)
 }
 
-// The number of the wallet with the id x, or 0 for none: by every step of its walk, or else by a search.
-fn look_on(w: &[u64], ids: &[u64; NUMBERS], t: &[u16; PLACES], n: usize, x: u64) -> usize
+// The number of the wallet with the id x: by every step of its walk, or else by a search.
+fn look_on(
+    w: &[u64],
+    ids: &[u64; NUMBERS],
+    t: &[u16; PLACES],
+    n: usize,
+    x: u64,
+) -> Option<WalletNumber>
     requires { Indexed w.now n ids.now t.now }
     ensures { result ≡ number_of w.now n x }
 {
-    let a = far(ids, t, n, x);
-    if a != 0 {
-        return a;
+    if let Some(number) = far(ids, t, n, x) {
+        return Some(number);
     }
-    let wallet = rows::numbered::find_wallet(w, n, x);
     // an escrow's party may be closed: a sound ledger asks only that it is written
-    match wallet {
-        WalletState::Missing => 0,
-        WalletState::Live(number) => number.0 as usize,
-        WalletState::Closed(number) => number.0 as usize,
+    match rows::numbered::find_wallet(w, n, x) {
+        WalletState::Missing => None,
+        WalletState::Live(number) => Some(number),
+        WalletState::Closed(number) => Some(number),
     }
 }
 
 // What the index proposes by the first steps, if no walk takes more.
-fn proposed(ids: &[u64; NUMBERS], t: &[u16; PLACES], n: usize, most: usize, x: u64) -> usize
+fn proposed(
+    ids: &[u64; NUMBERS],
+    t: &[u16; PLACES],
+    n: usize,
+    most: usize,
+    x: u64,
+) -> Option<WalletNumber>
     requires { (n ≤ Limits.MAX_WALLETS) × Within n t.now }
-    ensures { Hit ids.now n x result }
+    ensures { IfSome result (λ number. Hit ids.now n x number.0) }
 {
-    if most <= NEAR { near(ids, t, n, x) } else { 0 }
+    if most <= NEAR {
+        near(ids, t, n, x)
+    } else {
+        None
+    }
 }
 
-// The number of the wallet `from`, if that and `to` have one; else 0. `look_on` stands here twice, and in no function of its own with
-// `proposed`, so that the compiler has the few steps of `near` in line and the rest out of the way. Up to here a number is a plain word: a
-// struct from `look_on` would come through memory, for each escrow.
+// The number of the wallet `from`, if that and `to` have one. `look_on` stands here twice, and in no function of its own with `proposed`, so
+// that the compiler has the few steps of `near` in line and the rest out of the way.
 pub fn sender(
     w: &[u64],
     ids: &[u64; NUMBERS],
@@ -198,21 +210,11 @@ pub fn sender(
     most: usize,
     from: u64,
     to: u64,
-) -> WalletNumber
+) -> Option<WalletNumber>
     requires { Indexed w.now n ids.now t.now }
-    ensures { result.0 ≡ sender_of w.now n from to }
+    ensures { result ≡ sender_of w.now n from to }
 {
-    let mut a = proposed(ids, t, n, most, from);
-    if a == 0 {
-        a = look_on(w, ids, t, n, from);
-    }
-    let mut b = proposed(ids, t, n, most, to);
-    if b == 0 {
-        b = look_on(w, ids, t, n, to);
-    }
-    if b != 0 {
-        WalletNumber(a as u64)
-    } else {
-        WalletNumber(0)
-    }
+    let sender = proposed(ids, t, n, most, from).or_else(|| look_on(w, ids, t, n, from));
+    let recipient = proposed(ids, t, n, most, to).or_else(|| look_on(w, ids, t, n, to));
+    recipient.and(sender)
 }

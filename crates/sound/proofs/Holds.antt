@@ -10,6 +10,10 @@ use lib.Dec.{eqb, ltb}
 use lib.ListN.{get_or, set, length-set}
 use lib.Seq.{get_or-set_same, get_or-set_other}
 use borrow.Author.Tests.{eq-eqb, ne_eqb, ltb-true}
+use Rattle.std.specs.Prelude.{Option, None, Some}
+use Rattle.std.proofs.lemmas.Option.{same_Some, none-some}
+use Rattle.rules.specs.Wallets.{numbered}
+use Rattle.rules.specs.declared.WalletNumber.{WalletNumber}
 use Rattle.rules.specs.Limits.{WALLET_LEN, MAX_WALLETS, MAX_ESCROWS, MAX_AMOUNT_MICRO, ID, FROM, TO, ESCROW_AMOUNT, ESCROW_STATE, IS_OPEN}
 use Rattle.rules.specs.Table.{word, all, every, distinct}
 use Rattle.rules.specs.Ledger.{row_of}
@@ -27,22 +31,25 @@ pub record Sent (w : List ℕ) (n from to number : ℕ) : Type 0 where
   pub recipient : ltb (row_of w n to) n ≡ true
   pub numbered : number ≡ row_of w n from + 1
 
-pub sent : (w : List ℕ) (n from to number : ℕ) → number ≡ sender_of w n from to → (number ≡ 0 → ⊥) → Sent w n from to number
+pub sent : (w : List ℕ) (n from to : ℕ) (r : Option WalletNumber) (number : WalletNumber) → r ≡ sender_of w n from to → r ≡ Some number
+    → Sent w n from to number.0
 unfolding number_of sender_of
-sent w n from to number e z = go (ltb (row_of w n to) n) refl (ltb (row_of w n from) n) refl
+sent w n from to r number e s = go (ltb (row_of w n to) n) refl (ltb (row_of w n from) n) refl
   where
-    go : (a : Bool) → ltb (row_of w n to) n ≡ a → (b : Bool) → ltb (row_of w n from) n ≡ b → Sent w n from to number
-    go true p true q = record { sender = q; recipient = p; numbered = e ∙ rw (p, q) }
-    go true p false q = absurd (z (e ∙ rw (p, q)))
-    go false p b q = absurd (z (e ∙ rw p))
+    go : (a : Bool) → ltb (row_of w n to) n ≡ a → (b : Bool) → ltb (row_of w n from) n ≡ b → Sent w n from to number.0
+    go true p true q =
+        let f : Some number ≡ Some (numbered (row_of w n from)) = sym s ∙ e ∙ rw (p, q) in
+        record { sender = q; recipient = p; numbered = ap (λ k. k.0) (same_Some _ _ f) }
+    go true p false q = absurd (none-some number (sym (sym s ∙ e ∙ rw (p, q))))
+    go false p b q = absurd (none-some number (sym (sym s ∙ e ∙ rw p)))
 
-pub not_sent : (w : List ℕ) (n from to number : ℕ) (b : Bool) → number ≡ sender_of w n from to → number ≡ 0
+pub not_sent : (w : List ℕ) (n from to : ℕ) (r : Option WalletNumber) (b : Bool) → r ≡ sender_of w n from to → r ≡ None
     → ltb (row_of w n from) n && (ltb (row_of w n to) n && b) ≡ false
 unfolding number_of sender_of
-not_sent w n from to number b e z = go (ltb (row_of w n to) n) refl (ltb (row_of w n from) n) refl
+not_sent w n from to r b e z = go (ltb (row_of w n to) n) refl (ltb (row_of w n from) n) refl
   where
     go : (p : Bool) → ltb (row_of w n to) n ≡ p → (q : Bool) → ltb (row_of w n from) n ≡ q → ltb (row_of w n from) n && (ltb (row_of w n to) n && b) ≡ false
-    go true p true q = let y : number ≡ row_of w n from + 1 = e ∙ rw (p, q) in absurd (omega arith)
+    go true p true q = absurd (none-some (numbered (row_of w n from)) (sym z ∙ e ∙ rw (p, q)))
     go true p false q = rw q
     go false p c q = and_none_snd (ltb (row_of w n from) n) (ltb (row_of w n to) n && b) (rw p)
 

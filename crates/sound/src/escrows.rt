@@ -59,10 +59,10 @@ fn hold_all(
         if !escrow_right(e, len, k) {
             return false;
         }
-        let from = index::sender(w, ids, t, n, most, e[k * len + FROM], e[k * len + TO]);
-        if from.0 == 0 {
+        let Some(from) = index::sender(w, ids, t, n, most, e[k * len + FROM], e[k * len + TO])
+        else {
             return false;
-        }
+        };
         sums[from.0 as usize] += held_in(e, len, k);
     }
     true
