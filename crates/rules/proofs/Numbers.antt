@@ -1,8 +1,10 @@
--- The number of what a list of checks refuses, worked out check by check; and that number and word decide an answer.
-use Rattle.std.specs.Prelude.{◌≡◌, List, [], ◌∷◌, Bool, true, false, cond, ℕ, Result}
-use mathlib.Core.Path.{refl, ap, ◌∙◌}
-use Rattle.rules.specs.Numbers.{number_of, numbered, first_of}
+-- The number of what a list of checks refuses, worked out check by check; and that number and word decide an answer, so contracts that speak of these
+-- two promise no less than the whole answer.
+use Rattle.std.specs.Prelude.{◌≡◌, List, [], ◌∷◌, Bool, true, false, cond, ℕ, zero, suc, slice_index_or, Option, None, Some, Result, Ok, Err}
+use mathlib.Core.Path.{refl, sym, ap, ◌∙◌}
+use Rattle.rules.specs.Numbers.{number_of, numbered, word_of, first_of}
 use Rattle.rules.specs.declared.refusal.Refusal.{Refusal}
+use Rattle.rules.specs.declared.refusal.Refusal.TheVariants.{BadTable, LedgerDamaged, MalformedRecord, ClockBack, SystemFrozen, InvalidSignature, NotAdmin, EnvelopeNotYetValid, EnvelopeExpired, EnvelopeWindowTooLong, NonceSeen, AmountOutOfRange, SenderNotFound, SenderFrozen, RecipientInvalid, WalletNotFound, InsufficientBalance, PerTxCapExceeded, DailyCapExceeded, EscrowDeadlinePast, EscrowDeadlineExceedsMax, ProviderNotFound, RequesterNotFound, AcceptanceWindowTooShort, AcceptanceWindowTooLong, AcceptanceDeadlinePast, EscrowNotFound, EscrowSignerNotAuthorized, EscrowNotOpen, EscrowDidMismatch, AcceptanceDeadlineExceedsEscrow, ReceiptNotFound, ReceiptSignerNotAuthorized, ReceiptNotPending, DisputeReasonRequired, GrantLimit, WalletTableFull, EscrowTableFull, ReceiptTableFull, JournalTableFull, AcceptanceClosed, WalletNotEmpty, WalletClosed}
 
 -- the number of the first check that holds, or 0
 abbrev pub chain : List (Bool × Refusal) → ℕ
@@ -16,3 +18,80 @@ numbered_first checks e = ap numbered e ∙ go checks where
   go [] = refl
   go ((true, r) ∷ checks) = refl
   go ((false, r) ∷ checks) = go checks
+
+-- ---- number and word decide an answer, and the number alone one that has no word
+
+-- the refusal of a number, 0 for none
+names : List Refusal
+names =
+    BadTable ∷ LedgerDamaged ∷ MalformedRecord ∷ ClockBack ∷ SystemFrozen ∷ InvalidSignature
+    ∷ NotAdmin ∷ EnvelopeNotYetValid ∷ EnvelopeExpired ∷ EnvelopeWindowTooLong ∷ NonceSeen ∷ AmountOutOfRange
+    ∷ SenderNotFound ∷ SenderFrozen ∷ RecipientInvalid ∷ WalletNotFound ∷ InsufficientBalance ∷ PerTxCapExceeded
+    ∷ DailyCapExceeded ∷ EscrowDeadlinePast ∷ EscrowDeadlineExceedsMax ∷ ProviderNotFound ∷ RequesterNotFound ∷ AcceptanceWindowTooShort
+    ∷ AcceptanceWindowTooLong ∷ AcceptanceDeadlinePast ∷ EscrowNotFound ∷ EscrowSignerNotAuthorized ∷ EscrowNotOpen ∷ EscrowDidMismatch
+    ∷ AcceptanceDeadlineExceedsEscrow ∷ ReceiptNotFound ∷ ReceiptSignerNotAuthorized ∷ ReceiptNotPending ∷ DisputeReasonRequired ∷ GrantLimit
+    ∷ WalletTableFull ∷ EscrowTableFull ∷ ReceiptTableFull ∷ JournalTableFull ∷ AcceptanceClosed ∷ WalletNotEmpty
+    ∷ WalletClosed ∷ []
+
+refusal_of : ℕ → Option Refusal
+refusal_of zero = None
+refusal_of (suc n) = Some (slice_index_or names n BadTable)
+
+back : (r : Refusal) → refusal_of (number_of r) ≡ Some r
+unfolding refusal_of names
+back BadTable = refl
+back LedgerDamaged = refl
+back MalformedRecord = refl
+back ClockBack = refl
+back SystemFrozen = refl
+back InvalidSignature = refl
+back NotAdmin = refl
+back EnvelopeNotYetValid = refl
+back EnvelopeExpired = refl
+back EnvelopeWindowTooLong = refl
+back NonceSeen = refl
+back AmountOutOfRange = refl
+back SenderNotFound = refl
+back SenderFrozen = refl
+back RecipientInvalid = refl
+back WalletNotFound = refl
+back InsufficientBalance = refl
+back PerTxCapExceeded = refl
+back DailyCapExceeded = refl
+back EscrowDeadlinePast = refl
+back EscrowDeadlineExceedsMax = refl
+back ProviderNotFound = refl
+back RequesterNotFound = refl
+back AcceptanceWindowTooShort = refl
+back AcceptanceWindowTooLong = refl
+back AcceptanceDeadlinePast = refl
+back EscrowNotFound = refl
+back EscrowSignerNotAuthorized = refl
+back EscrowNotOpen = refl
+back EscrowDidMismatch = refl
+back AcceptanceDeadlineExceedsEscrow = refl
+back ReceiptNotFound = refl
+back ReceiptSignerNotAuthorized = refl
+back ReceiptNotPending = refl
+back DisputeReasonRequired = refl
+back GrantLimit = refl
+back WalletTableFull = refl
+back EscrowTableFull = refl
+back ReceiptTableFull = refl
+back JournalTableFull = refl
+back AcceptanceClosed = refl
+back WalletNotEmpty = refl
+back WalletClosed = refl
+
+pub same_outcome : (x y : Result Unit Refusal) → numbered x ≡ numbered y → x ≡ y
+unfolding refusal_of
+same_outcome (Ok x) (Ok y) n = refl
+same_outcome (Ok x) (Err s) n = absurd (let e : None ≡ Some s = ap refusal_of n ∙ back s in cc)
+same_outcome (Err r) (Ok y) n = absurd (let e : Some r ≡ None = sym (back r) ∙ ap refusal_of n in cc)
+same_outcome (Err r) (Err s) n = let e : Some r ≡ Some s = sym (back r) ∙ ap refusal_of n ∙ back s in cc
+
+pub same_answer : (x y : Result ℕ Refusal) → numbered x ≡ numbered y → word_of x ≡ word_of y → x ≡ y
+same_answer (Ok x) (Ok y) n w = ap Ok w
+same_answer (Ok x) (Err s) n w = absurd (let e = same_outcome (Ok tt) (Err s) n in cc)
+same_answer (Err r) (Ok y) n w = absurd (let e = same_outcome (Err r) (Ok tt) n in cc)
+same_answer (Err r) (Err s) n w = let e = same_outcome (Err r) (Err s) n in cc
