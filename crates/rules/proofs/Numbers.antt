@@ -1,8 +1,11 @@
--- The number of what a list of checks refuses, worked out check by check; and that number and word decide an answer, so contracts that speak of these
--- two promise no less than the whole answer.
+-- The number of what a list of checks refuses, worked out check by check; and that number and word decide an answer, and what bytes are read as what the
+-- reader answers, so that contracts which speak of these promise no less than the whole answer.
 use Rattle.std.specs.Prelude.{◌≡◌, List, [], ◌∷◌, Bool, true, false, cond, ℕ, zero, suc, slice_index_or, Option, None, Some, Result, Ok, Err}
 use mathlib.Core.Path.{refl, sym, ap, ◌∙◌}
-use Rattle.rules.specs.Numbers.{number_of, numbered, word_of, first_of}
+use native.Mathlib.Omega.{arith}
+use Rattle.rules.specs.Numbers.{number_of, numbered, word_of, read_as, first_of}
+use Rattle.rules.specs.declared.Read.{Read}
+use Rattle.rules.specs.declared.Submission.{Submission}
 use Rattle.rules.specs.declared.refusal.Refusal.{Refusal}
 use Rattle.rules.specs.declared.refusal.Refusal.TheVariants.{BadTable, LedgerDamaged, MalformedRecord, ClockBack, SystemFrozen, InvalidSignature, NotAdmin, EnvelopeNotYetValid, EnvelopeExpired, EnvelopeWindowTooLong, NonceSeen, AmountOutOfRange, SenderNotFound, SenderFrozen, RecipientInvalid, WalletNotFound, InsufficientBalance, PerTxCapExceeded, DailyCapExceeded, EscrowDeadlinePast, EscrowDeadlineExceedsMax, ProviderNotFound, RequesterNotFound, AcceptanceWindowTooShort, AcceptanceWindowTooLong, AcceptanceDeadlinePast, EscrowNotFound, EscrowSignerNotAuthorized, EscrowNotOpen, EscrowDidMismatch, AcceptanceDeadlineExceedsEscrow, ReceiptNotFound, ReceiptSignerNotAuthorized, ReceiptNotPending, DisputeReasonRequired, GrantLimit, WalletTableFull, EscrowTableFull, ReceiptTableFull, JournalTableFull, AcceptanceClosed, WalletNotEmpty, WalletClosed}
 
@@ -95,3 +98,11 @@ same_answer (Ok x) (Ok y) n w = ap Ok w
 same_answer (Ok x) (Err s) n w = absurd (let e = same_outcome (Ok tt) (Err s) n in cc)
 same_answer (Err r) (Ok y) n w = absurd (let e = same_outcome (Err r) (Ok tt) n in cc)
 same_answer (Err r) (Err s) n w = let e = same_outcome (Err r) (Err s) n in cc
+
+-- ---- and what bytes are read as decides what the reader answers
+
+pub same_read : (x y : Option Submission) → read_as x ≡ read_as y → x ≡ y
+same_read (Some x) (Some y) e = ap (λ (r : Read). Some r.submission) e
+same_read (Some x) None e = let k : ◌≡◌ {A = ℕ} 0 3 = ap (λ (r : Read). r.number) e in absurd (omega arith)
+same_read None (Some y) e = let k : ◌≡◌ {A = ℕ} 3 0 = ap (λ (r : Read). r.number) e in absurd (omega arith)
+same_read None None e = refl
