@@ -35,8 +35,10 @@ fn convert_at(recording: &mut [u8], at: usize)
     ensures { recording.new ≡ converted_at at recording.old }
 {
     let end = at + RECORD_BYTES;
-    let read = record::read_by(Form::Old, &recording[at..end]);
-    let old = read.submission.op;
+    let old = match record::read_by(Form::Old, &recording[at..end]) {
+        Some(s) => s.op,
+        None => 0,
+    };
     let operation = new_operation(old);
     let flags = new_flags(old, recording[at + FLAGS_AT]);
     recording[at + OPERATION_AT] = operation;
