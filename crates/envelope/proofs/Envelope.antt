@@ -1,4 +1,4 @@
--- The picks of `envelope_refusal` are the first of checks 4 to 11, over plain values.
+-- What `envelope_refusal` answers is the first of checks 4 to 11, over plain values.
 use mathlib.Core.Path.{◌≡◌, refl, subst}
 use mathlib.Core.List.{List}
 use mathlib.Core.Bool.{Bool, true, false, not, cond, ◌&&◌, ◌||◌, or-false}
@@ -33,18 +33,18 @@ signed_is op lo hi =
     subst (λ (n : ℕ). one_of signed n ≡ not (eqb n SWEEP)) e (same _ _ (below agree LAST_OPERATION tt (op - 1) (omega arith)))
 
 pub refusal_by :
-    (ed : Edition) (h w e r j : List ℕ) (s : Submission) (r4 r5 r6 r7 r8 r9 r10 r11 : ℕ) (used : Bool)
+    (ed : Edition) (h w e r j : List ℕ) (s : Submission) (used : Bool)
     → 1 ≤ s.op
     → s.op ≤ LAST_OPERATION
     → used ≡ seen_in j (get_or h ENTRIES 0) s.signer s.nonce
-    → r11 ≡ cond (not (eqb s.op SWEEP) && used) 11 0
-    → r10 ≡ cond (not (eqb s.op SWEEP) && ltb (s.issued + MAX_ENVELOPE_MS) s.expires) 10 r11
-    → r9 ≡ cond (not (eqb s.op SWEEP) && ltb s.expires s.now) 9 r10
-    → r8 ≡ cond (not (eqb s.op SWEEP) && ltb (s.now + MAX_SKEW_MS) s.issued) 8 r9
-    → r7 ≡ cond ((eqb s.op GRANT || (eqb s.op FREEZE || (eqb s.op CAPS || eqb s.op CLOSE))) && clear s ADMIN) 7 r8
-    → r6 ≡ cond (not (eqb s.op SWEEP) && clear s SIGNATURE_HELD) 6 r7
-    → r5 ≡ cond (between GRANT SWEEP s.op && eqb (get_or h SYSTEM_FROZEN 0) 1) 5 r6
-    → r4 ≡ cond (ltb s.now (get_or h CLOCK 0)) 4 r5
-    → r4 ≡ first (envelope_refusals (ledger_of ed h w e r j) s)
+    → cond (ltb s.now (get_or h CLOCK 0)) 4
+    (cond (between GRANT SWEEP s.op && eqb (get_or h SYSTEM_FROZEN 0) 1) 5
+    (cond (not (eqb s.op SWEEP) && clear s SIGNATURE_HELD) 6
+    (cond ((eqb s.op GRANT || (eqb s.op FREEZE || (eqb s.op CAPS || eqb s.op CLOSE))) && clear s ADMIN) 7
+    (cond (not (eqb s.op SWEEP) && ltb (s.now + MAX_SKEW_MS) s.issued) 8
+    (cond (not (eqb s.op SWEEP) && ltb s.expires s.now) 9
+    (cond (not (eqb s.op SWEEP) && ltb (s.issued + MAX_ENVELOPE_MS) s.expires) 10
+    (cond (not (eqb s.op SWEEP) && used) 11 0)))))))
+    ≡ first (envelope_refusals (ledger_of ed h w e r j) s)
 unfolding envelope_refusals seen seen_in
-refusal_by ed h w e r j s r4 r5 r6 r7 r8 r9 r10 r11 used lo hi u c11 c10 c9 c8 c7 c6 c5 c4 = cc (signed_is s.op lo hi, or-false (eqb s.op CLOSE))
+refusal_by ed h w e r j s used lo hi u = cc (signed_is s.op lo hi, or-false (eqb s.op CLOSE))

@@ -9,11 +9,11 @@ ghost use Rattle.rules.specs.Numbers.{numbered};
 ghost use Rattle.rules.specs.Refusals.{first, seen_in, envelope_refusals};
 
 use rules::Submission;
-use rules::refusal::{Refusal, first_of};
 use rules::limits::{
     ADMIN, CAPS, CLOCK, CLOSE, ENTRIES, FREEZE, GRANT, JOURNAL_LEN, MAX_ENVELOPE_MS, MAX_SKEW_MS,
     NONCE, SIGNATURE_HELD, SIGNER, SWEEP, SYSTEM_FROZEN,
 };
+use rules::refusal::{Refusal, first_of};
 
 // Whether one of the first n journal rows has signer and nonce. The newest is looked at first, as nearly every retry comes within a minute.
 pub fn seen(journal: &[u64], n: usize, signer: u64, nonce: u64) -> bool

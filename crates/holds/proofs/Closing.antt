@@ -1,6 +1,6 @@
--- A release or a refund: the rows that the table of refusals leaves for it, and that the picks of its group are the first of them. The
--- hypotheses of the law are what the calls ensure, in their order.
-use mathlib.Core.Path.{◌≡◌, sym, ◌∙◌}
+-- A release or a refund: the rows that the table of refusals leaves for it, and that its checks are those, in their order. The
+-- hypotheses of the law are what the calls ensure.
+use mathlib.Core.Path.{◌≡◌, sym}
 use mathlib.Core.List.{List, [], ◌∷◌}
 use mathlib.Core.Logic.{◌⊎◌, ⊎_elim}
 use mathlib.Core.Bool.{not, cond, ◌&&◌, or-false}
@@ -33,20 +33,19 @@ unfolding operation_refusals_by of_closing
 refund_rows L s o = simp (o, or-false)
 
 pub closing_by :
-    (ed : Edition) (h w e r j : List ℕ) (s : Submission) (number from deadline state r27 r28 r29 r40 : ℕ)
+    (ed : Edition) (h w e r j : List ℕ) (s : Submission) (number from deadline state : ℕ)
     → (s.op ≡ RELEASE) ⊎ (s.op ≡ REFUND)
     → number ≡ named (get_or h ESCROWS 0) s.target
     → from ≡ word e ed.escrow (number - 1) FROM
     → deadline ≡ word e ed.escrow (number - 1) ESCROW_DEADLINE
     → state ≡ word e ed.escrow (number - 1) ESCROW_STATE
-    → r40 ≡ cond (full JOURNAL_LEN j (get_or h ENTRIES 0)) 40 0
-    → r29 ≡ cond (written (get_or h ESCROWS 0) s.target && not (eqb state IS_OPEN && leb s.now deadline)) 29 r40
-    → r28 ≡ cond (written (get_or h ESCROWS 0) s.target && (not (eqb s.signer from) && clear s ADMIN)) 28 r29
-    → r27 ≡ cond (not (written (get_or h ESCROWS 0) s.target)) 27 r28
-    → r27 ≡ first (operation_refusals (ledger_of ed h w e r j) s)
+    → cond (not (written (get_or h ESCROWS 0) s.target)) 27
+    (cond (written (get_or h ESCROWS 0) s.target && (not (eqb s.signer from) && clear s ADMIN)) 28
+    (cond (written (get_or h ESCROWS 0) s.target && not (eqb state IS_OPEN && leb s.now deadline)) 29
+    (cond (full JOURNAL_LEN j (get_or h ENTRIES 0)) 40 0)))
+    ≡ first (operation_refusals (ledger_of ed h w e r j) s)
 unfolding of_closing
-closing_by ed h w e r j s number from deadline state r27 r28 r29 r40 o a b d f c40 c29 c28 c27 =
+closing_by ed h w e r j s number from deadline state o a b d f =
     let x = at_row (get_or h ESCROWS 0) s.target number (λ i. not (eqb s.signer (word e ed.escrow i FROM)) && clear s ADMIN) a in
     let y = at_row (get_or h ESCROWS 0) s.target number (λ i. not (eqb (word e ed.escrow i ESCROW_STATE) IS_OPEN && leb s.now (word e ed.escrow i ESCROW_DEADLINE))) a in
-    let picks : r27 ≡ first (of_closing (ledger_of ed h w e r j) s) = cc in
-    picks ∙ sym (⊎_elim (release_rows _ s) (refund_rows _ s) o)
+    rw (b, d, f, x, y) (sym (⊎_elim (release_rows _ s) (refund_rows _ s) o))

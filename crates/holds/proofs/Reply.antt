@@ -1,6 +1,6 @@
--- A reply to a claim: the rows that the table of refusals leaves for it, and that the picks of its group are the first of them. The
--- hypotheses of the law are what the calls ensure, in their order.
-use mathlib.Core.Path.{◌≡◌, sym, ◌∙◌}
+-- A reply to a claim: the rows that the table of refusals leaves for it, and that its checks are those, in their order. The
+-- hypotheses of the law are what the calls ensure.
+use mathlib.Core.Path.{◌≡◌, sym}
 use mathlib.Core.List.{List, [], ◌∷◌}
 use mathlib.Core.Bool.{not, cond, ◌&&◌}
 use Prim.Native.Nat.{ℕ, ◌-◌}
@@ -31,23 +31,22 @@ unfolding operation_refusals_by of_reply
 reply_rows L s o = simp o
 
 pub reply_by :
-    (ed : Edition) (h w e r j : List ℕ) (s : Submission) (number requester deadline state r32 r33 r34 r41 r35 r40 : ℕ)
+    (ed : Edition) (h w e r j : List ℕ) (s : Submission) (number requester deadline state : ℕ)
     → s.op ≡ REPLY
     → number ≡ named (get_or h RECEIPTS 0) s.target
     → requester ≡ word r RECEIPT_LEN (number - 1) REQUESTER
     → deadline ≡ word r RECEIPT_LEN (number - 1) ACCEPTANCE_DEADLINE
     → state ≡ word r RECEIPT_LEN (number - 1) RECEIPT_STATE
-    → r40 ≡ cond (full JOURNAL_LEN j (get_or h ENTRIES 0)) 40 0
-    → r35 ≡ cond (clear s ACCEPTS && clear s REASON_GIVEN) 35 r40
-    → r41 ≡ cond (written (get_or h RECEIPTS 0) s.target && ltb deadline s.now) 41 r35
-    → r34 ≡ cond (written (get_or h RECEIPTS 0) s.target && not (eqb state PENDING)) 34 r41
-    → r33 ≡ cond (written (get_or h RECEIPTS 0) s.target && not (eqb s.signer requester)) 33 r34
-    → r32 ≡ cond (not (written (get_or h RECEIPTS 0) s.target)) 32 r33
-    → r32 ≡ first (operation_refusals (ledger_of ed h w e r j) s)
+    → cond (not (written (get_or h RECEIPTS 0) s.target)) 32
+    (cond (written (get_or h RECEIPTS 0) s.target && not (eqb s.signer requester)) 33
+    (cond (written (get_or h RECEIPTS 0) s.target && not (eqb state PENDING)) 34
+    (cond (written (get_or h RECEIPTS 0) s.target && ltb deadline s.now) 41
+    (cond (clear s ACCEPTS && clear s REASON_GIVEN) 35
+    (cond (full JOURNAL_LEN j (get_or h ENTRIES 0)) 40 0)))))
+    ≡ first (operation_refusals (ledger_of ed h w e r j) s)
 unfolding of_reply
-reply_by ed h w e r j s number requester deadline state r32 r33 r34 r41 r35 r40 o a b t d c40 c35 c41 c34 c33 c32 =
+reply_by ed h w e r j s number requester deadline state o a b d f =
     let x = at_row (get_or h RECEIPTS 0) s.target number (λ i. not (eqb s.signer (word r RECEIPT_LEN i REQUESTER))) a in
     let y = at_row (get_or h RECEIPTS 0) s.target number (λ i. not (eqb (word r RECEIPT_LEN i RECEIPT_STATE) PENDING)) a in
     let z = at_row (get_or h RECEIPTS 0) s.target number (λ i. ltb (word r RECEIPT_LEN i ACCEPTANCE_DEADLINE) s.now) a in
-    let picks : r32 ≡ first (of_reply (ledger_of ed h w e r j) s) = cc in
-    picks ∙ sym (reply_rows _ s o)
+    rw (b, d, f, x, y, z) (sym (reply_rows _ s o))

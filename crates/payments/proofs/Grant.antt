@@ -1,5 +1,5 @@
--- A grant: the rows that the table of refusals leaves for it, and that the picks of its group are the first of them, in each case of what looking up
--- the recipient finds. The hypotheses of the law are what the calls ensure, in their order.
+-- A grant: the rows that the table of refusals leaves for it, and that its groups of checks answer by the first of them, in each case of what looking
+-- up the recipient finds.
 use mathlib.Core.Path.{◌≡◌, sym, subst, ◌∙◌}
 use mathlib.Core.List.{List, [], ◌∷◌}
 use mathlib.Core.Bool.{Bool, not, cond, ◌&&◌, or-false}
@@ -16,6 +16,7 @@ use Rattle.rules.specs.declared.Submission.{Submission}
 use Rattle.rules.specs.declared.WalletState.{WalletState}
 use Rattle.rules.specs.declared.WalletState.TheVariants.{Missing, Live, Closed}
 use Rattle.rules.proofs.Wallets.{look_case}
+use Rattle.payments.proofs.Recipient.{by_recipient}
 
 unfoldable pub of_grant : Ledger → Submission → List Refusal
 of_grant L s =
@@ -31,30 +32,29 @@ pub grant_rows : (L : Ledger) (s : Submission) → s.op ≡ GRANT → first (ope
 unfolding operation_refusals_by of_grant
 grant_rows L s o = simp (o, or-false)
 
--- what the recipient's wallet decides: closed is 43; otherwise 36, and then whether there is room for its row, if it needs one
-abbrev pub by_recipient : Bool → ℕ → ℕ → WalletState → ℕ
-by_recipient over made there Missing = cond over 36 made
-by_recipient over made there (Live k) = cond over 36 there
-by_recipient over made there (Closed k) = 43
+-- the checks behind its recipient's, who needs a row or not
+abbrev pub granting : List ℕ → List ℕ → List ℕ → Submission → Bool → ℕ
+granting h w j s needs =
+    cond (ltb MAX_GRANTED_MICRO (get_or h GRANTED 0 + s.amount)) 36
+    (cond (needs && full WALLET_LEN w (get_or h WALLETS 0)) 37
+    (cond (full JOURNAL_LEN j (get_or h ENTRIES 0)) 40 0))
 
 pub grant_by :
-    (ed : Edition) (h w e r j : List ℕ) (s : Submission) (recipient : WalletState) (rest r12 r15 r37 r40 : ℕ) (over : Bool)
+    (ed : Edition) (h w e r j : List ℕ) (s : Submission) (x : ℕ)
     → s.op ≡ GRANT
-    → recipient ≡ look_up w (get_or h WALLETS 0) s.target
-    → over ≡ ltb MAX_GRANTED_MICRO (get_or h GRANTED 0 + s.amount)
-    → r40 ≡ cond (full JOURNAL_LEN j (get_or h ENTRIES 0)) 40 0
-    → r37 ≡ cond (full WALLET_LEN w (get_or h WALLETS 0)) 37 r40
-    → rest ≡ by_recipient over r37 r40 recipient
-    → r15 ≡ cond (eqb s.target 0) 15 rest
-    → r12 ≡ cond (not (between 1 MAX_AMOUNT_MICRO s.amount)) 12 r15
-    → r12 ≡ first (operation_refusals (ledger_of ed h w e r j) s)
+    → x ≡ by_recipient (granting h w j s) (look_up w (get_or h WALLETS 0) s.target)
+    → cond (not (between 1 MAX_AMOUNT_MICRO s.amount)) 12 (cond (eqb s.target 0) 15 x) ≡ first (operation_refusals (ledger_of ed h w e r j) s)
 unfolding of_grant
-grant_by ed h w e r j s recipient rest r12 r15 r37 r40 over o k x c40 c37 c c15 c12 = picks ∙ sym (grant_rows _ s o)
+grant_by ed h w e r j s x o c = picks ∙ sym (grant_rows _ s o)
   where
     L : Ledger
     L = ledger_of ed h w e r j
 
-    picks : r12 ≡ first (of_grant L s)
+    picks : cond (not (between 1 MAX_AMOUNT_MICRO s.amount)) 12 (cond (eqb s.target 0) 15 x) ≡ first (of_grant L s)
     picks =
-        look_case (λ (found : WalletState). rest ≡ by_recipient over r37 r40 found → r12 ≡ first (of_grant L s)) w (get_or h WALLETS 0) s.target
-        (λ m d. rw (m) cc) (λ t n d. rw (t, n) cc) (λ t n d. rw (t, n) cc) (subst (λ (found : WalletState). rest ≡ by_recipient over r37 r40 found) k c)
+        look_case
+        (λ (found : WalletState).
+        x ≡ by_recipient (granting h w j s) found
+        → cond (not (between 1 MAX_AMOUNT_MICRO s.amount)) 12 (cond (eqb s.target 0) 15 x) ≡ first (of_grant L s))
+        w (get_or h WALLETS 0) s.target
+        (λ m d. rw (d, m)) (λ t n d. rw (d, t, n)) (λ t n d. rw (d, t, n)) c

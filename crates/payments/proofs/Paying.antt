@@ -1,5 +1,5 @@
--- A transfer or an open: the rows that the table of refusals leaves for it, and that the picks of its groups are the first of them, in each case of
--- what looking up the sender and the recipient finds. The hypotheses of a law are what the calls ensure, in their order.
+-- A transfer or an open: the rows that the table of refusals leaves for it, and that its groups of checks answer by the first of them, in each case of
+-- what looking up the sender and the recipient finds.
 use mathlib.Core.Path.{◌≡◌, refl, sym, subst, ◌∙◌}
 use mathlib.Core.List.{List, [], ◌∷◌}
 use mathlib.Core.Logic.{◌⊎◌, ⊎_elim}
@@ -21,7 +21,8 @@ use Rattle.rules.specs.declared.WalletState.{WalletState}
 use Rattle.rules.specs.declared.WalletState.TheVariants.{Missing, Live, Closed}
 use Rattle.rules.proofs.Wallets.{look_case}
 use Rattle.rows.proofs.Found.{row_found}
-use Rattle.payments.specs.Sending.{limited, sending_refusals}
+use Rattle.payments.specs.Sending.{sending_refusals}
+use Rattle.payments.proofs.Recipient.{by_recipient}
 
 unfoldable pub of_paying : Ledger → Submission → List Refusal
 of_paying L s =
@@ -50,43 +51,37 @@ open_rows L s o = simp (o, or-false)
 
 -- ---- a live sender: its recipient, and its limits
 
--- what the recipient's wallet decides: closed is 43; otherwise the sender's limits, and then whether there is room for its row, if it needs one
-abbrev pub by_recipient : (ℕ → ℕ) → ℕ → ℕ → WalletState → ℕ
-by_recipient limits made there Missing = limits made
-by_recipient limits made there (Live k) = limits there
-by_recipient limits made there (Closed k) = 43
+-- the checks behind its recipient's, where i is its row, and the recipient needs a row or not
+abbrev pub limits : Edition → List ℕ → List ℕ → List ℕ → List ℕ → Submission → ℕ → Bool → ℕ
+limits ed h w e j s i needs =
+    cond (ltb (word w WALLET_LEN i BALANCE) s.amount) 17
+    (cond (ltb (word w WALLET_LEN i TX_CAP) s.amount) 18
+    (cond (ltb (word w WALLET_LEN i DAILY_CAP) (s.amount + counted_of j (get_or h ENTRIES 0) s.signer s.now)) 19
+    (cond (eqb s.op OPEN && leb s.until s.now) 20
+    (cond (eqb s.op OPEN && ltb (s.now + MAX_HOLD_MS) s.until) 21
+    (cond (needs && full WALLET_LEN w (get_or h WALLETS 0)) 37
+    (cond (eqb s.op OPEN && full ed.escrow e (get_or h ESCROWS 0)) 38
+    (cond (full JOURNAL_LEN j (get_or h ENTRIES 0)) 40 0)))))))
 
-sending_rows : (L : Ledger) (s : Submission)
-    → first (sending_refusals L s)
-    ≡ cond (is_closed L s.target) 43
-    (limited s (wallet_of L s.signer BALANCE) (wallet_of L s.signer TX_CAP)
-    (ltb (wallet_of L s.signer DAILY_CAP) (s.amount + counted_of L.journal (entry_count L) s.signer s.now))
-    (cond (not (has_wallet L s.target) && full WALLET_LEN L.wallets (wallet_count L)) 37
-    (cond (eqb s.op OPEN && full L.edition.escrow L.escrows (escrow_count L)) 38 (cond (full JOURNAL_LEN L.journal (entry_count L)) 40 0))))
-unfolding sending_refusals limited counted
-sending_rows L s = refl
+sending_rows : (ed : Edition) (h w e r j : List ℕ) (s : Submission)
+    → first (sending_refusals (ledger_of ed h w e r j) s)
+    ≡ cond (is_closed (ledger_of ed h w e r j) s.target) 43
+    (limits ed h w e j s (row_of w (get_or h WALLETS 0) s.signer) (not (has_wallet (ledger_of ed h w e r j) s.target)))
+unfolding sending_refusals counted
+sending_rows ed h w e r j s = refl
 
 pub sending_by :
-    (ed : Edition) (h w e r j : List ℕ) (s : Submission) (recipient : WalletState) (from balance tx daily spent x r37 r38 r40 : ℕ) (over : Bool)
-    → recipient ≡ look_up w (get_or h WALLETS 0) s.target
+    (ed : Edition) (h w e r j : List ℕ) (s : Submission) (from x : ℕ)
     → from ≡ row_of w (get_or h WALLETS 0) s.signer + 1
-    → balance ≡ word w WALLET_LEN (from - 1) BALANCE
-    → tx ≡ word w WALLET_LEN (from - 1) TX_CAP
-    → daily ≡ word w WALLET_LEN (from - 1) DAILY_CAP
-    → spent ≡ counted_of j (get_or h ENTRIES 0) s.signer s.now
-    → over ≡ ltb daily (s.amount + spent)
-    → r40 ≡ cond (full JOURNAL_LEN j (get_or h ENTRIES 0)) 40 0
-    → r38 ≡ cond (eqb s.op OPEN && full ed.escrow e (get_or h ESCROWS 0)) 38 r40
-    → r37 ≡ cond (full WALLET_LEN w (get_or h WALLETS 0)) 37 r38
-    → x ≡ by_recipient (limited s balance tx over) r37 r38 recipient
+    → x ≡ by_recipient (limits ed h w e j s (from - 1)) (look_up w (get_or h WALLETS 0) s.target)
     → x ≡ first (sending_refusals (ledger_of ed h w e r j) s)
-sending_by ed h w e r j s recipient from balance tx daily spent x r37 r38 r40 over k b f g i l m c40 c38 c37 c =
-    look_case (λ (found : WalletState). x ≡ by_recipient (limited s balance tx over) r37 r38 found → x ≡ first (sending_refusals (ledger_of ed h w e r j) s))
+sending_by ed h w e r j s from x b c =
+    look_case (λ (found : WalletState). x ≡ by_recipient (limits ed h w e j s (from - 1)) found → x ≡ first (sending_refusals (ledger_of ed h w e r j) s))
     w (get_or h WALLETS 0) s.target
-    (λ n d. d ∙ rw (m, l, i, f, g, at, c37, c38, c40, sending_rows (ledger_of ed h w e r j) s, n))
-    (λ t n d. d ∙ rw (m, l, i, f, g, at, c38, c40, sending_rows (ledger_of ed h w e r j) s, t, n))
-    (λ t n d. d ∙ rw (sending_rows (ledger_of ed h w e r j) s, t, n))
-    (subst (λ (found : WalletState). x ≡ by_recipient (limited s balance tx over) r37 r38 found) k c)
+    (λ n d. d ∙ rw (at, sending_rows ed h w e r j s, n))
+    (λ t n d. d ∙ rw (at, sending_rows ed h w e r j s, t, n))
+    (λ t n d. d ∙ rw (sending_rows ed h w e r j s, t, n))
+    c
   where
     at : from - 1 ≡ row_of w (get_or h WALLETS 0) s.signer
     at = row_found from _ b
@@ -100,14 +95,13 @@ by_sender w invalid rest (Live k) = cond (eqb (word w WALLET_LEN (k.0 - 1) FROZE
 by_sender w invalid rest (Closed k) = cond invalid 15 43
 
 pub paying_by :
-    (ed : Edition) (h w e r j : List ℕ) (s : Submission) (sender : WalletState) (rest r12 : ℕ)
+    (ed : Edition) (h w e r j : List ℕ) (s : Submission) (x : ℕ)
     → (s.op ≡ TRANSFER) ⊎ (s.op ≡ OPEN)
-    → sender ≡ look_up w (get_or h WALLETS 0) s.signer
-    → rest ≡ by_sender w (eqb s.target 0 || eqb s.target s.signer) (first (sending_refusals (ledger_of ed h w e r j) s)) sender
-    → r12 ≡ cond (not (between 1 MAX_AMOUNT_MICRO s.amount)) 12 rest
-    → r12 ≡ first (operation_refusals (ledger_of ed h w e r j) s)
+    → x
+    ≡ by_sender w (eqb s.target 0 || eqb s.target s.signer) (first (sending_refusals (ledger_of ed h w e r j) s)) (look_up w (get_or h WALLETS 0) s.signer)
+    → cond (not (between 1 MAX_AMOUNT_MICRO s.amount)) 12 x ≡ first (operation_refusals (ledger_of ed h w e r j) s)
 unfolding of_paying sending_refusals
-paying_by ed h w e r j s sender rest r12 o k c c12 = picks ∙ sym (⊎_elim (transfer_rows _ s) (open_rows _ s) o)
+paying_by ed h w e r j s x o c = picks ∙ sym (⊎_elim (transfer_rows _ s) (open_rows _ s) o)
   where
     L : Ledger
     L = ledger_of ed h w e r j
@@ -115,13 +109,13 @@ paying_by ed h w e r j s sender rest r12 o k c c12 = picks ∙ sym (⊎_elim (tr
     n : ℕ
     n = get_or h WALLETS 0
 
-    invalid : Bool
-    invalid = eqb s.target 0 || eqb s.target s.signer
+    by : WalletState → ℕ
+    by = by_sender w (eqb s.target 0 || eqb s.target s.signer) (first (sending_refusals L s))
 
-    picks : r12 ≡ first (of_paying L s)
+    picks : cond (not (between 1 MAX_AMOUNT_MICRO s.amount)) 12 x ≡ first (of_paying L s)
     picks =
-        look_case (λ (found : WalletState). rest ≡ by_sender w invalid (first (sending_refusals L s)) found → r12 ≡ first (of_paying L s)) w n s.signer
-        (λ m d. rw (m) cc)
-        (λ t o d. let at = row_found (row_of w n s.signer + 1) (row_of w n s.signer) refl in rw (t, o) cc)
-        (λ t o d. let closed = eqb-true (word w WALLET_LEN (row_of w n s.signer) FROZEN) IS_CLOSED o in rw (t, closed) cc)
-        (subst (λ (found : WalletState). rest ≡ by_sender w invalid (first (sending_refusals L s)) found) k c)
+        look_case (λ (found : WalletState). x ≡ by found → cond (not (between 1 MAX_AMOUNT_MICRO s.amount)) 12 x ≡ first (of_paying L s)) w n s.signer
+        (λ m d. rw (d, m))
+        (λ t o d. let at = row_found (row_of w n s.signer + 1) (row_of w n s.signer) refl in rw (d, t, o) cc)
+        (λ t o d. let closed = eqb-true (word w WALLET_LEN (row_of w n s.signer) FROZEN) IS_CLOSED o in rw (d, t, closed) cc)
+        c

@@ -64,9 +64,3 @@ module _ (j : List ℕ) (signer clock : ℕ) where
   -- the sum so far and one row more fit a word
   pub counted_fits : (n : ℕ) → Entries j n → (i sum more : ℕ) → i < n → sum ≡ counted_of j i signer clock → more ≡ picked i → sum + more < 2 ^ 64
   counted_fits n h i sum more l p q = omega (arith, h.few, counted_most n h i (omega arith), part_most n h i l, picked_is i)
-
-  -- the rows before i are all n
-  pub counted_all : (n i sum : ℕ) → i ≤ n → n ≤ i → sum ≡ counted_of j i signer clock → sum ≡ counted_of j n signer clock
-  counted_all n i sum a b p =
-      let e : i ≡ n = omega arith in
-      p ∙ ap (λ (m : ℕ). counted_of j m signer clock) e

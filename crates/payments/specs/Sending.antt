@@ -1,19 +1,10 @@
 -- What is left to check of a transfer or an open whose sender is live and pays somebody else: by the recipient's wallet, and by the sender's limits.
-use Rattle.std.specs.Prelude.{List, [], ◌∷◌, Bool, not, cond, ◌&&◌, ℕ, ◌+◌, eqb, ltb, leb}
+use Rattle.std.specs.Prelude.{List, [], ◌∷◌, Bool, not, ◌&&◌, ◌+◌, eqb, ltb, leb}
 use Rattle.rules.specs.Limits.{WALLET_LEN, JOURNAL_LEN, MAX_HOLD_MS, OPEN, BALANCE, TX_CAP, DAILY_CAP}
 use Rattle.rules.specs.Ledger.{Ledger, wallet_count, escrow_count, entry_count, has_wallet, wallet_of, full}
 use Rattle.rules.specs.Wallets.{is_closed}
 use Rattle.rules.specs.Refusals.{Refusal, row, counted}
 use Rattle.rules.specs.declared.Submission.{Submission}
-
--- 17 to 21, by the sender's words and whether its daily cap is passed; then the rest
-unfoldable pub limited : Submission → ℕ → ℕ → Bool → ℕ → ℕ
-limited s balance tx over rest =
-    cond (ltb balance s.amount) 17
-    (cond (ltb tx s.amount) 18
-    (cond over 19
-    (cond (eqb s.op OPEN && leb s.until s.now) 20
-    (cond (eqb s.op OPEN && ltb (s.now + MAX_HOLD_MS) s.until) 21 rest))))
 
 unfoldable pub sending_refusals : Ledger → Submission → List Refusal
 sending_refusals L s =

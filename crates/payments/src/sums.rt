@@ -21,15 +21,13 @@ pub fn counted(journal: &[u64], n: usize, signer: u64, clock: u64) -> u64
     ensures { result ≡ counted_of journal.now n signer clock }
 {
     let mut sum = 0;
-    let mut i = 0;
-    while i < n {
+    for i in 0..n {
         let at = i * JOURNAL_LEN;
         let recent = clock <= journal[at + SETTLED_AT] + DAY_MS;
         let operation = journal[at + OPERATION];
-        let pays = (operation == TRANSFER as u64) | (operation == OPEN as u64);
+        let pays = (operation == u64::from(TRANSFER)) | (operation == u64::from(OPEN));
         let counts = (journal[at + SIGNER] == signer) & (pays & recent);
         sum += rows::choose(counts, journal[at + ENTRY_AMOUNT], 0);
-        i += 1;
     }
     sum
 }

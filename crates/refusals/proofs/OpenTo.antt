@@ -18,9 +18,3 @@ pub open_next : (len : ℕ) (e : List ℕ) (i id : ℕ) (found : Bool) → found
     → (more : Bool) → more ≡ (eqb (word e len i TO) id && eqb (word e len i ESCROW_STATE) IS_OPEN) → found || more ≡ open_to len e (i + 1) id
 unfolding open_to some
 open_next len e i id found k more m = rw (add-one i, k, m)
-
--- the rows before i are all n
-pub open_all : (len : ℕ) (e : List ℕ) (n i id : ℕ) (found : Bool) → i ≤ n → n ≤ i → found ≡ open_to len e i id → found ≡ open_to len e n id
-open_all len e n i id found a b k =
-    let m : i ≡ n = omega arith in
-    k ∙ ap (λ (x : ℕ). open_to len e x id) m

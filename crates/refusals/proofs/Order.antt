@@ -1,4 +1,4 @@
--- The checks in order: a group that refuses is the whole answer, and one that does not leaves it to the next.
+-- The operations in order, and that no answer of the envelope's checks is 0: so one that does not refuse leaves the answer to the operation's.
 use mathlib.Core.Path.{◌≡◌, refl, sym, ◌∙◌}
 use mathlib.Core.Logic.{◌⊎◌, inl, inr}
 use mathlib.Core.Bool.{true}
@@ -23,13 +23,7 @@ either n op lo hi = go (ℕ_discrete op n)
 pub above : (n op : ℕ) → n ≤ op → (op ≡ n → ⊥) → n + 1 ≤ op
 above n op lo ne = omega (arith, ne)
 
-module _ (L : Ledger) (s : Submission) where
-  envelope_numbered : numbered (envelope_refusals L s) ≡ true
-  unfolding envelope_refusals
-  envelope_numbered = refl
-
-  pub by_envelope : (x : ℕ) → x ≡ first (envelope_refusals L s) → (x ≡ 0 → ⊥) → x ≡ first (later_refusals L s)
-  by_envelope x e ne = e ∙ sym (first_stop (envelope_refusals L s) (operation_refusals L s) (λ z. ne (e ∙ z)))
-
-  pub by_operation : (x y : ℕ) → x ≡ first (envelope_refusals L s) → x ≡ 0 → y ≡ first (operation_refusals L s) → y ≡ first (later_refusals L s)
-  by_operation x y e z o = o ∙ sym (first_pass (envelope_refusals L s) (operation_refusals L s) envelope_numbered (sym e ∙ z))
+-- the envelope's rows are numbered from 1
+pub envelope_numbered : (L : Ledger) (s : Submission) → numbered (envelope_refusals L s) ≡ true
+unfolding envelope_refusals
+envelope_numbered L s = refl

@@ -1,5 +1,5 @@
--- A sweep, a freeze, new caps and a close: the rows that the table of refusals leaves for each, and that the picks of its group are the first of
--- them, in each case of what looking up the target finds. The hypotheses of the laws are what the calls ensure, in their order.
+-- A sweep, a freeze, new caps and a close: the rows that the table of refusals leaves for each, and that its checks answer by the first of them, in
+-- each case of what looking up the target finds.
 use mathlib.Core.Path.{◌≡◌, refl, sym, subst, ◌∙◌}
 use mathlib.Core.List.{List, [], ◌∷◌}
 use mathlib.Core.Bool.{Bool, true, false, not, cond, ◌&&◌, ◌||◌, or-false}
@@ -71,13 +71,9 @@ pub close_rows : (L : Ledger) (s : Submission) → s.op ≡ CLOSE → first (ope
 unfolding operation_refusals_by of_close
 close_rows L s o = simp o
 
-pub sweep_by :
-    (L : Ledger) (s : Submission) (r12 : ℕ)
-    → s.op ≡ SWEEP
-    → r12 ≡ cond (not (between 1 MAX_SWEEP_ROWS s.amount)) 12 0
-    → r12 ≡ first (operation_refusals L s)
+pub sweep_by : (L : Ledger) (s : Submission) → s.op ≡ SWEEP → cond (not (between 1 MAX_SWEEP_ROWS s.amount)) 12 0 ≡ first (operation_refusals L s)
 unfolding of_sweep
-sweep_by L s r12 o c12 = c12 ∙ sym (sweep_rows L s o)
+sweep_by L s o = sym (sweep_rows L s o)
 
 -- what the target's wallet decides: closed is 43
 abbrev pub by_target : ℕ → (WalletNumber → ℕ) → WalletState → ℕ
@@ -85,67 +81,65 @@ by_target missing live Missing = missing
 by_target missing live (Live k) = live k
 by_target missing live (Closed k) = 43
 
+-- check 40, of n rows
+abbrev pub room : List ℕ → List ℕ → ℕ
+room h j = cond (full JOURNAL_LEN j (get_or h ENTRIES 0)) 40 0
+
+abbrev pub freezing : List ℕ → List ℕ → Submission → WalletState → ℕ
+freezing h j s = by_target (cond (not (eqb s.target 0)) 16 (room h j)) (λ k. room h j)
+
 pub freeze_by :
-    (ed : Edition) (h w e r j : List ℕ) (s : Submission) (wallet : WalletState) (x r40 : ℕ)
+    (ed : Edition) (h w e r j : List ℕ) (s : Submission) (x : ℕ)
     → s.op ≡ FREEZE
-    → wallet ≡ look_up w (get_or h WALLETS 0) s.target
-    → r40 ≡ cond (full JOURNAL_LEN j (get_or h ENTRIES 0)) 40 0
-    → x ≡ by_target (cond (not (eqb s.target 0)) 16 r40) (λ k. r40) wallet
+    → x ≡ freezing h j s (look_up w (get_or h WALLETS 0) s.target)
     → x ≡ first (operation_refusals (ledger_of ed h w e r j) s)
 unfolding of_freeze
-freeze_by ed h w e r j s wallet x r40 o a c40 c = picks ∙ sym (freeze_rows _ s o)
+freeze_by ed h w e r j s x o c = picks ∙ sym (freeze_rows _ s o)
   where
-    by : WalletState → ℕ
-    by = by_target (cond (not (eqb s.target 0)) 16 r40) (λ k. r40)
-
     picks : x ≡ first (of_freeze (ledger_of ed h w e r j) s)
     picks =
-        look_case (λ (found : WalletState). x ≡ by found → x ≡ first (of_freeze (ledger_of ed h w e r j) s)) w (get_or h WALLETS 0) s.target
-        (λ m d. d ∙ rw (c40, m, and_true (not (eqb s.target 0)))) (λ t n d. d ∙ rw (c40, t, n, and_none (not (eqb s.target 0))))
-        (λ t n d. d ∙ rw (t, n, and_none (not (eqb s.target 0)))) (subst (λ (found : WalletState). x ≡ by found) a c)
+        look_case (λ (found : WalletState). x ≡ freezing h j s found → x ≡ first (of_freeze (ledger_of ed h w e r j) s)) w (get_or h WALLETS 0) s.target
+        (λ m d. d ∙ rw (m, and_true (not (eqb s.target 0)))) (λ t n d. d ∙ rw (t, n, and_none (not (eqb s.target 0))))
+        (λ t n d. d ∙ rw (t, n, and_none (not (eqb s.target 0)))) c
+
+abbrev pub capping : List ℕ → List ℕ → WalletState → ℕ
+capping h j = by_target 16 (λ k. room h j)
 
 pub caps_by :
-    (ed : Edition) (h w e r j : List ℕ) (s : Submission) (wallet : WalletState) (x r12 r40 : ℕ)
+    (ed : Edition) (h w e r j : List ℕ) (s : Submission) (x : ℕ)
     → s.op ≡ CAPS
-    → wallet ≡ look_up w (get_or h WALLETS 0) s.target
-    → r40 ≡ cond (full JOURNAL_LEN j (get_or h ENTRIES 0)) 40 0
-    → x ≡ by_target 16 (λ k. r40) wallet
-    → r12 ≡ cond (ltb MAX_AMOUNT_MICRO s.amount || ltb MAX_AMOUNT_MICRO s.link) 12 x
-    → r12 ≡ first (operation_refusals (ledger_of ed h w e r j) s)
+    → x ≡ capping h j (look_up w (get_or h WALLETS 0) s.target)
+    → cond (ltb MAX_AMOUNT_MICRO s.amount || ltb MAX_AMOUNT_MICRO s.link) 12 x ≡ first (operation_refusals (ledger_of ed h w e r j) s)
 unfolding of_caps
-caps_by ed h w e r j s wallet x r12 r40 o a c40 c c12 = c12 ∙ picks ∙ sym (caps_rows _ s o)
+caps_by ed h w e r j s x o c = picks ∙ sym (caps_rows _ s o)
   where
     P : WalletState → Type 0
     P found =
-        x ≡ by_target 16 (λ k. r40) found
+        x ≡ capping h j found
         → cond (ltb MAX_AMOUNT_MICRO s.amount || ltb MAX_AMOUNT_MICRO s.link) 12 x ≡ first (of_caps (ledger_of ed h w e r j) s)
 
     picks : cond (ltb MAX_AMOUNT_MICRO s.amount || ltb MAX_AMOUNT_MICRO s.link) 12 x ≡ first (of_caps (ledger_of ed h w e r j) s)
-    picks =
-        look_case P w (get_or h WALLETS 0) s.target (λ m d. rw (d, m)) (λ t n d. rw (d, c40, t, n)) (λ t n d. rw (d, t, n))
-        (subst (λ (found : WalletState). x ≡ by_target 16 (λ k. r40) found) a c)
+    picks = look_case P w (get_or h WALLETS 0) s.target (λ m d. rw (d, m)) (λ t n d. rw (d, t, n)) (λ t n d. rw (d, t, n)) c
 
 -- the wallet in row i has balance, locked credits or an open escrow to its id
 abbrev pub used : List ℕ → ℕ → List ℕ → ℕ → ℕ → ℕ → Bool
 used w len e n id i = ltb 0 (word w WALLET_LEN i BALANCE) || (ltb 0 (word w WALLET_LEN i LOCKED) || open_to len e n id)
 
+abbrev pub closing : Edition → List ℕ → List ℕ → List ℕ → List ℕ → Submission → WalletState → ℕ
+closing ed h w e j s = by_target 16 (λ k. cond (used w ed.escrow e (get_or h ESCROWS 0) s.target (k.0 - 1)) 42 (room h j))
+
 pub close_by :
-    (ed : Edition) (h w e r j : List ℕ) (s : Submission) (wallet : WalletState) (x r40 : ℕ)
+    (ed : Edition) (h w e r j : List ℕ) (s : Submission) (x : ℕ)
     → s.op ≡ CLOSE
-    → wallet ≡ look_up w (get_or h WALLETS 0) s.target
-    → r40 ≡ cond (full JOURNAL_LEN j (get_or h ENTRIES 0)) 40 0
-    → x ≡ by_target 16 (λ k. cond (used w ed.escrow e (get_or h ESCROWS 0) s.target (k.0 - 1)) 42 r40) wallet
+    → x ≡ closing ed h w e j s (look_up w (get_or h WALLETS 0) s.target)
     → x ≡ first (operation_refusals (ledger_of ed h w e r j) s)
 unfolding of_close
-close_by ed h w e r j s wallet x r40 o a c40 c = picks ∙ sym (close_rows _ s o)
+close_by ed h w e r j s x o c = picks ∙ sym (close_rows _ s o)
   where
-    by : WalletState → ℕ
-    by = by_target 16 (λ k. cond (used w ed.escrow e (get_or h ESCROWS 0) s.target (k.0 - 1)) 42 r40)
-
     i : ℕ
     i = row_of w (get_or h WALLETS 0) s.target
 
     picks : x ≡ first (of_close (ledger_of ed h w e r j) s)
     picks =
-        look_case (λ (found : WalletState). x ≡ by found → x ≡ first (of_close (ledger_of ed h w e r j) s)) w (get_or h WALLETS 0) s.target
-        (λ m d. d ∙ rw m) (λ t n d. d ∙ rw (c40, t, n, row_found (i + 1) i refl)) (λ t n d. d ∙ rw (t, n)) (subst (λ (found : WalletState). x ≡ by found) a c)
+        look_case (λ (found : WalletState). x ≡ closing ed h w e j s found → x ≡ first (of_close (ledger_of ed h w e r j) s)) w (get_or h WALLETS 0) s.target
+        (λ m d. d ∙ rw m) (λ t n d. d ∙ rw (t, n, row_found (i + 1) i refl)) (λ t n d. d ∙ rw (t, n)) c

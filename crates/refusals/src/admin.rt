@@ -4,6 +4,7 @@ ghost use Rattle.rules.specs.Limits;
 ghost use Rattle.rules.specs.Table.{word};
 ghost use Rattle.rules.specs.Ledger.{Ledger, Sized};
 ghost use Rattle.rules.specs.Moments.{any, ◌of_edition◌, ◌seeing_header◌, ◌seeing_wallets◌, ◌seeing_escrows◌, ◌seeing_journal◌};
+ghost use Rattle.rules.specs.Numbers.{numbered};
 ghost use Rattle.rules.specs.Refusals.{first, operation_refusals};
 ghost use Rattle.rules.specs.Wallets.{open_to};
 
@@ -11,51 +12,61 @@ use rules::limits::{
     BALANCE, ENTRIES, ESCROW_STATE, ESCROWS, IS_OPEN, JOURNAL_LEN, LOCKED, MAX_AMOUNT_MICRO,
     MAX_SWEEP_ROWS, TO, WALLETS,
 };
+use rules::refusal::{Refusal, first_of};
 use rules::{Edition, Submission, WalletState};
 
 // A sweep: check 12, of its limit.
-pub fn sweep_refusal(s: Submission) -> u64
+pub fn sweep_refusal(s: Submission) -> Result<(), Refusal>
     requires { s.op ≡ Limits.SWEEP }
-    ensures { (L : Ledger) → result ≡ first (operation_refusals L s) }
+    ensures { (L : Ledger) → numbered result ≡ first (operation_refusals L s) }
 {
     let amount_out_of_range = !((1 <= s.amount) & (s.amount <= MAX_SWEEP_ROWS));
-    rows::choose(amount_out_of_range, 12, 0)
+    first_of([(amount_out_of_range, Refusal::AmountOutOfRange)])
 }
 
 // A freeze: checks 16, 43, 40, in this order. Target 0 is the system.
-pub fn freeze_refusal(header: &[u64], wallets: &[u64], journal: &[u64], s: Submission) -> u64
+pub fn freeze_refusal(
+    header: &[u64],
+    wallets: &[u64],
+    journal: &[u64],
+    s: Submission,
+) -> Result<(), Refusal>
     requires { (Limits.ENTRIES < length header.now) × (get_or header.now Limits.WALLETS 0 * Limits.WALLET_LEN ≤ length wallets.now) × (s.op ≡ Limits.FREEZE) }
-    ensures { (K : Ledger) → let L = any K seeing_header header seeing_wallets wallets seeing_journal journal in result ≡ first (operation_refusals L.entry s) }
+    ensures { (K : Ledger) → let L = any K seeing_header header seeing_wallets wallets seeing_journal journal in numbered result ≡ first (operation_refusals L.entry s) }
 {
     let count = header[WALLETS] as usize;
     let entries = header[ENTRIES] as usize;
-    let wallet = rows::numbered::find_wallet(wallets, count, s.target);
     let journal_table_full = journal.len() / JOURNAL_LEN <= entries;
-    let r40 = rows::choose(journal_table_full, 40, 0);
-    match wallet {
-        WalletState::Missing => rows::choose(s.target != 0, 16, r40),
-        WalletState::Live(_) => r40,
-        WalletState::Closed(_) => 43,
+    match rows::numbered::find_wallet(wallets, count, s.target) {
+        WalletState::Missing => first_of([
+            (s.target != 0, Refusal::WalletNotFound),
+            (journal_table_full, Refusal::JournalTableFull),
+        ]),
+        WalletState::Live(_) => first_of([(journal_table_full, Refusal::JournalTableFull)]),
+        WalletState::Closed(_) => Err(Refusal::WalletClosed),
     }
 }
 
 // New caps: checks 12, 16, 43, 40, in this order.
-pub fn caps_refusal(header: &[u64], wallets: &[u64], journal: &[u64], s: Submission) -> u64
+pub fn caps_refusal(
+    header: &[u64],
+    wallets: &[u64],
+    journal: &[u64],
+    s: Submission,
+) -> Result<(), Refusal>
     requires { (Limits.ENTRIES < length header.now) × (get_or header.now Limits.WALLETS 0 * Limits.WALLET_LEN ≤ length wallets.now) × (s.op ≡ Limits.CAPS) }
-    ensures { (K : Ledger) → let L = any K seeing_header header seeing_wallets wallets seeing_journal journal in result ≡ first (operation_refusals L.entry s) }
+    ensures { (K : Ledger) → let L = any K seeing_header header seeing_wallets wallets seeing_journal journal in numbered result ≡ first (operation_refusals L.entry s) }
 {
     let count = header[WALLETS] as usize;
     let entries = header[ENTRIES] as usize;
-    let wallet = rows::numbered::find_wallet(wallets, count, s.target);
     let amount_out_of_range = (MAX_AMOUNT_MICRO < s.amount) | (MAX_AMOUNT_MICRO < s.link);
     let journal_table_full = journal.len() / JOURNAL_LEN <= entries;
-    let r40 = rows::choose(journal_table_full, 40, 0);
-    let by_wallet = match wallet {
-        WalletState::Missing => 16,
-        WalletState::Live(_) => r40,
-        WalletState::Closed(_) => 43,
-    };
-    rows::choose(amount_out_of_range, 12, by_wallet)
+    first_of([(amount_out_of_range, Refusal::AmountOutOfRange)])?;
+    match rows::numbered::find_wallet(wallets, count, s.target) {
+        WalletState::Missing => Err(Refusal::WalletNotFound),
+        WalletState::Live(_) => first_of([(journal_table_full, Refusal::JournalTableFull)]),
+        WalletState::Closed(_) => Err(Refusal::WalletClosed),
+    }
 }
 
 // Whether the escrow in row i is to an id, and open.
@@ -72,11 +83,9 @@ fn open_to(escrows: &[u64], len: usize, n: usize, id: u64) -> bool
     ensures { result ≡ open_to len escrows.now n id }
 {
     let mut found = false;
-    let mut i: usize = 0;
-    while i < n {
+    for i in 0..n {
         let to_it = opens_to(escrows, len, i, id);
-        found = found | to_it;
-        i += 1;
+        found |= to_it;
     }
     found
 }
@@ -89,25 +98,26 @@ pub fn close_refusal(
     escrows: &[u64],
     journal: &[u64],
     s: Submission,
-) -> u64
+) -> Result<(), Refusal>
     requires { (Limits.ENTRIES < length header.now) × (get_or header.now Limits.WALLETS 0 ≤ Limits.MAX_WALLETS) × (get_or header.now Limits.WALLETS 0 * Limits.WALLET_LEN ≤ length wallets.now) × (get_or header.now Limits.ESCROWS 0 * edition.escrow ≤ length escrows.now) × (s.op ≡ Limits.CLOSE) × Sized edition }
-    ensures { (K : Ledger) → let L = any K of_edition edition seeing_header header seeing_wallets wallets seeing_escrows escrows seeing_journal journal in result ≡ first (operation_refusals L.entry s) }
+    ensures { (K : Ledger) → let L = any K of_edition edition seeing_header header seeing_wallets wallets seeing_escrows escrows seeing_journal journal in numbered result ≡ first (operation_refusals L.entry s) }
 {
     let count = header[WALLETS] as usize;
     let held = header[ESCROWS] as usize;
     let entries = header[ENTRIES] as usize;
-    let wallet = rows::numbered::find_wallet(wallets, count, s.target);
-    let expects = open_to(escrows, edition.escrow, held, s.target);
-    let journal_table_full = journal.len() / JOURNAL_LEN <= entries;
-    let r40 = rows::choose(journal_table_full, 40, 0);
-    match wallet {
-        WalletState::Missing => 16,
+    match rows::numbered::find_wallet(wallets, count, s.target) {
+        WalletState::Missing => Err(Refusal::WalletNotFound),
         WalletState::Live(number) => {
             let balance = rows::numbered::wallet(wallets, number, BALANCE);
             let locked = rows::numbered::wallet(wallets, number, LOCKED);
+            let expects = open_to(escrows, edition.escrow, held, s.target);
             let not_empty = (0 < balance) | ((0 < locked) | expects);
-            rows::choose(not_empty, 42, r40)
+            let journal_table_full = journal.len() / JOURNAL_LEN <= entries;
+            first_of([
+                (not_empty, Refusal::WalletNotEmpty),
+                (journal_table_full, Refusal::JournalTableFull),
+            ])
         },
-        WalletState::Closed(_) => 43,
+        WalletState::Closed(_) => Err(Refusal::WalletClosed),
     }
 }

@@ -1,9 +1,15 @@
--- The number of what a list of checks refuses, worked out check by check; and that number and word decide an answer, and what bytes are read as what the
--- reader answers, so that contracts which speak of these promise no less than the whole answer.
-use Rattle.std.specs.Prelude.{◌≡◌, List, [], ◌∷◌, Bool, true, false, cond, ℕ, zero, suc, slice_index_or, Option, None, Some, Result, Ok, Err}
+-- The number of what a list of checks refuses, worked out check by check; what a `?` hands on of it; and that number and word decide an answer, and what
+-- bytes are read as what the reader answers, so that contracts which speak of these promise no less than the whole answer.
+use Rattle.std.specs.Prelude.{◌≡◌, ◌≢◌, List, [], ◌∷◌, ◌++◌, Bool, true, false, cond, ℕ, zero, suc, slice_index_or, Option, None, Some, Result, Ok, Err, IsErr}
+use Rattle.std.specs.Result.{IsErrAnd}
+use Rattle.std.proofs.lemmas.Result.{err_from_is_err_and}
 use mathlib.Core.Path.{refl, sym, ap, ◌∙◌}
 use native.Mathlib.Omega.{arith}
 use Rattle.rules.specs.Numbers.{number_of, numbered, word_of, read_as, first_of}
+use Rattle.rules.specs.Refusals.{first}
+use Rattle.rules.specs.Refusals.{Refusal as Row}
+use Rattle.rules.proofs.Refused.{first_stop, first_pass}
+use Rattle.rules.proofs.Refused.{numbered as all_numbered}
 use Rattle.rules.specs.declared.Read.{Read}
 use Rattle.rules.specs.declared.Submission.{Submission}
 use Rattle.rules.specs.declared.refusal.Refusal.{Refusal}
@@ -21,6 +27,54 @@ numbered_first checks e = ap numbered e ∙ go checks where
   go [] = refl
   go ((true, r) ∷ checks) = refl
   go ((false, r) ∷ checks) = go checks
+
+-- no refusal has the number 0
+pub not_0 : (r : Refusal) → number_of r ≢ 0
+not_0 r = grind arith
+
+-- ---- What a `?` hands on, and what it lets pass
+
+-- a refusal as it leaves the function, by the same number
+leaves : {B : Type 0} (whole : Result B Refusal) (r : Refusal) → IsErr whole × IsErrAnd whole (λ y. y ≡ r) → numbered whole ≡ number_of r
+leaves whole r e = let p = err_from_is_err_and whole e.1 in rw (p.1, p.2) refl
+
+-- behind a table: the number of its first check that holds, or else the rest
+abbrev pub before : List (Bool × Refusal) → ℕ → ℕ
+before [] rest = rest
+before (check ∷ checks) rest = cond check.0 (number_of check.1) (before checks rest)
+
+pub refused :
+    {B : Type 0} {part : Result Unit Refusal} {r : Refusal} (whole : Result B Refusal) (checks : List (Bool × Refusal)) (rest : ℕ)
+    → part ≡ first_of checks → part ≡ Err r → IsErr whole × IsErrAnd whole (λ y. y ≡ r) → numbered whole ≡ before checks rest
+unfolding first_of
+refused {r = r} whole checks rest e was q = leaves whole r q ∙ go checks (sym was ∙ e) where
+  go : (checks : List (Bool × Refusal)) → Err r ≡ first_of checks → number_of r ≡ before checks rest
+  go [] e = cc
+  go ((true, k) ∷ checks) e = cc
+  go ((false, k) ∷ checks) e = go checks e
+
+pub passed :
+    {part : Result Unit Refusal} {x : Unit} (checks : List (Bool × Refusal)) (rest : ℕ)
+    → part ≡ first_of checks → part ≡ Ok x → rest ≡ before checks rest
+unfolding first_of
+passed {x = x} checks rest e was = go checks (sym was ∙ e) where
+  go : (checks : List (Bool × Refusal)) → Ok x ≡ first_of checks → rest ≡ before checks rest
+  go [] e = refl
+  go ((true, k) ∷ checks) e = cc
+  go ((false, k) ∷ checks) e = go checks e
+
+-- behind a part whose contract has the rows xs of the table of refusals: the first of these, or else of the rows ys behind them
+pub refused_by :
+    {A B : Type 0} {part : Result A Refusal} {r : Refusal} (whole : Result B Refusal) (xs ys : List Row)
+    → numbered part ≡ first xs → part ≡ Err r → IsErr whole × IsErrAnd whole (λ y. y ≡ r) → numbered whole ≡ first (xs ++ ys)
+refused_by {r = r} whole xs ys e was q =
+    let is : number_of r ≡ first xs = sym (ap numbered was) ∙ e in
+    leaves whole r q ∙ is ∙ sym (first_stop xs ys (λ z. not_0 r (is ∙ z)))
+
+pub passed_by :
+    {A : Type 0} {part : Result A Refusal} {x : A} (xs ys : List Row)
+    → all_numbered xs ≡ true → numbered part ≡ first xs → part ≡ Ok x → first ys ≡ first (xs ++ ys)
+passed_by xs ys n e was = sym (first_pass xs ys n (sym e ∙ ap numbered was))
 
 -- ---- number and word decide an answer, and the number alone one that has no word
 

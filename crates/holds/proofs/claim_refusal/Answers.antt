@@ -1,7 +1,6 @@
 -- `holds::claim_refusal` meets its contract: each arm is told what was found of the provider and of the requester.
-use mathlib.Core.Path.{◌≡◌, refl, sym, ap, ◌∙◌}
-use Prim.Native.Nat.{ℕ}
-use Rattle.rules.specs.Ledger.{Ledger, ledger_of}
+use mathlib.Core.Path.{◌≡◌, refl, sym, ◌∙◌}
+use Rattle.rules.specs.Moments.{ledger_in}
 use Rattle.rules.specs.Refusals.{first, operation_refusals}
 use Rattle.rules.specs.declared.WalletState.{WalletState}
 use Rattle.holds.specs.Terms.{term_refusals}
@@ -12,43 +11,29 @@ use Rattle.holds.proofs.claim_refusal.Goals.{After-find_wallet-requester}
 pub returns-then-s : goal.returns-then-s
 returns-then-s c = claim_invalid _ _ c.requires.4 c.if-s.true
 
--- the ledger that is lent, and what an arm answers
-abbrev L : After-find_wallet-requester → Ledger
-L c =
-    let start = c.args in
-    ledger_of start.edition start.header.now start.wallets.now start.escrows.now start.receipts.now start.journal.now
+-- what is answered, by both parties
+by : (c : After-find_wallet-requester) {provider requester : WalletState} → c.find_wallet-provider.result ≡ provider → c.find_wallet-requester.result ≡ requester
+    → by_parties (first (term_refusals (ledger_in c.args.ledger) c.args.s)) provider requester ≡ first (operation_refusals (ledger_in c.args.ledger) c.args.s)
+by c p q = claim_by _ _ _ _ c.requires.4 c.if-s.false (sym p ∙ c.find_wallet-provider.ensures) (sym q ∙ c.find_wallet-requester.ensures)
 
-abbrev rest : After-find_wallet-requester → ℕ
-rest c = first (term_refusals (L c) c.args.s)
+pub returns-in-Missing-Missing : goal.returns-in-Missing-Missing
+returns-in-Missing-Missing c = by (goal.at.returns-in-Missing-Missing c).After-find_wallet-requester c.in-Missing-Missing.is-0 c.in-Missing-Missing.is-1
 
-answers : (c : After-find_wallet-requester) (x : ℕ) → x ≡ by_parties (rest c) c.find_wallet-provider.result c.find_wallet-requester.result
-    → x ≡ first (operation_refusals (L c) c.args.s)
-answers c x e =
-    claim_by _ _ _ _ _ _ _ _ _ _ c.requires.4 c.if-s.false c.find_wallet-provider.ensures c.find_wallet-requester.ensures e
+pub returns-in-Missing-Missing-2 : goal.returns-in-Missing-Missing-2
+returns-in-Missing-Missing-2 c = by (goal.at.returns-in-Missing-Missing-2 c).After-find_wallet-requester c.in-Missing-Missing.is-0 c.in-Missing-Missing.is-1
 
--- by both parties, the provider first
-by : (c : After-find_wallet-requester) (x : ℕ) (provider requester : WalletState) → c.find_wallet-provider.result ≡ provider → c.find_wallet-requester.result ≡ requester
-    → x ≡ by_parties (rest c) provider requester → x ≡ first (operation_refusals (L c) c.args.s)
-by c x provider requester p q e =
-    answers c x (e ∙ sym (ap (λ (z : WalletState). by_parties (rest c) z requester) p) ∙ sym (ap (by_parties (rest c) c.find_wallet-provider.result) q))
+pub returns-in-Live-Missing : goal.returns-in-Live-Missing
+returns-in-Live-Missing c = by (goal.at.returns-in-Live-Missing c).After-find_wallet-requester c.in-Live-Missing.is-0 c.in-Live-Missing.is-1
 
-pub returns-in-Missing-requester : goal.returns-in-Missing-requester
-returns-in-Missing-requester c = by (goal.at.returns-in-Missing-requester c).After-find_wallet-requester _ _ _ c.in-Missing.is c.in-Missing-requester.is refl
+pub returns-in-Live-Live : goal.returns-in-Live-Live
+returns-in-Live-Live c = c.terms_refusal.ensures (ledger_in c.args.ledger)
+    ∙ by (goal.at.returns-in-Live-Live c).After-find_wallet-requester c.in-Live-Live.is-0 c.in-Live-Live.is-1
 
-pub returns-in-Live-requester : goal.returns-in-Live-requester
-returns-in-Live-requester c = by (goal.at.returns-in-Live-requester c).After-find_wallet-requester _ _ _ c.in-Missing.is c.in-Live-requester.is refl
+pub returns-in-Closed-default : goal.returns-in-Closed-default
+returns-in-Closed-default c = by (goal.at.returns-in-Closed-default c).After-find_wallet-requester c.in-Closed-default.is-0 refl
 
-pub returns-in-Closed-requester : goal.returns-in-Closed-requester
-returns-in-Closed-requester c = by (goal.at.returns-in-Closed-requester c).After-find_wallet-requester _ _ _ c.in-Missing.is c.in-Closed-requester.is refl
+pub returns-in-Closed-default-2 : goal.returns-in-Closed-default-2
+returns-in-Closed-default-2 c = by (goal.at.returns-in-Closed-default-2 c).After-find_wallet-requester c.in-Closed-default.is-0 c.in-Closed-default.is-1
 
-pub returns-in-Missing-requester-2 : goal.returns-in-Missing-requester-2
-returns-in-Missing-requester-2 c = by (goal.at.returns-in-Missing-requester-2 c).After-find_wallet-requester _ _ _ c.in-Live.is c.in-Missing-requester-2.is refl
-
-pub returns-in-Live-requester-2 : goal.returns-in-Live-requester-2
-returns-in-Live-requester-2 c = by (goal.at.returns-in-Live-requester-2 c).After-find_wallet-requester _ _ _ c.in-Live.is c.in-Live-requester-2.is (c.terms_refusal.ensures (L (goal.at.returns-in-Live-requester-2 c).After-find_wallet-requester))
-
-pub returns-in-Closed-requester-2 : goal.returns-in-Closed-requester-2
-returns-in-Closed-requester-2 c = by (goal.at.returns-in-Closed-requester-2 c).After-find_wallet-requester _ _ _ c.in-Live.is c.in-Closed-requester-2.is refl
-
-pub returns-in-Closed : goal.returns-in-Closed
-returns-in-Closed c = answers (goal.at.returns-in-Closed c).After-find_wallet-requester _ (sym (ap (λ (z : WalletState). by_parties (rest (goal.at.returns-in-Closed c).After-find_wallet-requester) z c.find_wallet-requester.result) c.in-Closed.is))
+pub returns-in-Closed-default-3 : goal.returns-in-Closed-default-3
+returns-in-Closed-default-3 c = by (goal.at.returns-in-Closed-default-3 c).After-find_wallet-requester c.in-Closed-default.is-0 c.in-Closed-default.is-1

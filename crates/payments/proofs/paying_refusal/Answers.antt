@@ -1,41 +1,72 @@
 -- `payments::paying_refusal` meets its contract: each arm is told what was found of the sender.
-use mathlib.Core.Path.{◌≡◌, sym, ap, ◌∙◌}
-use Prim.Native.Nat.{◌+◌}
+use mathlib.Core.Path.{◌≡◌, refl, ap, ◌∙◌}
+use mathlib.Core.Bool.{◌||◌}
+use Prim.Native.Nat.{ℕ, ◌+◌}
+use lib.Dec.{eqb}
 use lib.ListN.{get_or}
 use Rattle.rules.specs.Limits.{WALLETS}
-use Rattle.rules.specs.Ledger.{row_of, ledger_of}
+use Rattle.rules.specs.Ledger.{Ledger, row_of, ledger_of}
 use Rattle.rules.specs.Refusals.{first}
+use Rattle.rules.specs.declared.WalletState.{WalletState}
+use Rattle.rules.proofs.Numbers.{numbered_first, refused, passed}
 use Rattle.rules.proofs.Wallets.{look_says}
 use Rattle.rows.proofs.Found.{names_found}
 use Rattle.payments.specs.Sending.{sending_refusals}
 use Rattle.payments.proofs.Paying.{by_sender, paying_by}
 use borrow.Author.Rules.{rules}
 use Rattle.payments.proofs.paying_refusal.Goals as goal
-use Rattle.payments.proofs.paying_refusal.Goals.{in-Missing, in-Live, in-Closed}
-use Rattle.payments.proofs.paying_refusal.Goals.{In-Live}
+use Rattle.payments.proofs.paying_refusal.Goals.{After-find_wallet, In-Live}
+
+-- what is left to check of a live sender
+abbrev rest : (c : After-find_wallet) → Ledger → ℕ
+rest c K =
+    let start = c.args in
+    first (sending_refusals (ledger_of start.edition start.header.now start.wallets.now start.escrows.now K.receipts start.journal.now) start.s)
+
+-- what an arm answers, by what was found
+abbrev by : (c : After-find_wallet) → Ledger → WalletState → ℕ
+by c K = by_sender c.args.wallets.now (eqb c.args.s.target 0 || eqb c.args.s.target c.args.s.signer) (rest c K)
 
 -- a live sender's number
-sends : (c : In-Live) → c.in-Live.number.0 ≡ row_of c.args.wallets.now (get_or c.args.header.now WALLETS 0) c.args.s.signer + 1
-sends c = (look_says _ _ _ _ (sym c.in-Live.is ∙ c.find_wallet-sender.ensures)).2
+sends : (c : In-Live) → c.in-Live.sender.0 ≡ row_of c.args.wallets.now (get_or c.args.header.now WALLETS 0) c.args.s.signer + 1
+sends c = (look_says _ _ _ _ c.in-Live.ensures).2
 
-pub wallet-frozen-requires : goal.wallet-frozen-requires
-wallet-frozen-requires c = (names_found _ _ _ _ c.requires.1 (sends c), search rules)
+pub wallet-sender_frozen-requires : goal.wallet-sender_frozen-requires
+wallet-sender_frozen-requires c = (names_found _ _ _ _ c.requires.1 (sends c), search rules)
 
-pub sending_refusal-rest-requires : goal.sending_refusal-rest-requires
-sending_refusal-rest-requires c =
+pub sending_refusal-requires : goal.sending_refusal-requires
+sending_refusal-requires c =
     let pre = c.requires in
-    (pre.0, pre.1, pre.2, pre.3, pre.4, pre.6, sends (goal.at.sending_refusal-rest-requires c).In-Live)
+    (pre.0, pre.1, pre.2, pre.3, pre.4, pre.6, sends (goal.at.sending_refusal-requires c).In-Live)
 
-pub returns : goal.returns
-returns c =
+pub returns-in_err-first_of : goal.returns-in_err-first_of
+returns-in_err-first_of c =
+    λ K. refused _ _ _ c.first_of.ensures c.in_err-first_of.was c.from_residual.ensures ∙ paying_by _ _ _ _ K.receipts _ _ _ c.requires.5 refl
+
+pub returns-in-Missing : goal.returns-in-Missing
+returns-in-Missing c =
+    λ K. passed _ _ c.first_of.ensures c.in_ok-first_of.was
+    ∙ paying_by _ _ _ _ K.receipts _ _ _ c.requires.5 (ap (by (goal.at.returns-in-Missing c).After-find_wallet K) c.in-Missing.ensures)
+
+pub returns-in_err-first_of-in-Live : goal.returns-in_err-first_of-in-Live
+returns-in_err-first_of-in-Live c =
+    let at = (goal.at.returns-in_err-first_of-in-Live c).After-find_wallet in
     λ K.
-    let by = by_sender _ _ (first (sending_refusals (ledger_of _ _ _ _ K.receipts _) _)) in
-    paying_by _ _ _ _ K.receipts _ _ _ _ _
-    c.requires.5
-    c.find_wallet-sender.ensures
-    (elim c.match-sender.branch [
-      | in-Missing w ↦ w.by_sender-is ∙ sym (ap by w.in-Missing.is)
-      | in-Live w ↦ w.by_sender-is ∙ w.choose-by_sender.ensures ∙ rw (w.wallet-frozen.ensures, w.choose-r15.ensures, w.sending_refusal-rest.ensures K) (sym (ap by w.in-Live.is))
-      | in-Closed w ↦ w.by_sender-is ∙ w.choose-by_sender-in-Closed.ensures ∙ sym (ap by w.in-Closed.is)
-    ])
-    c.choose.ensures
+    refused _ _ (rest at K) c.first_of-in-Live.ensures c.in_err-first_of-in-Live.was c.from_residual-in_err-first_of-in-Live.ensures
+    ∙ passed _ _ c.first_of.ensures c.in_ok-first_of.was
+    ∙ paying_by _ _ _ _ K.receipts _ _ _ c.requires.5 (rw c.wallet-sender_frozen.ensures (ap (by at K) c.in-Live.ensures))
+
+pub returns-in_ok-first_of-in-Live : goal.returns-in_ok-first_of-in-Live
+returns-in_ok-first_of-in-Live c =
+    let at = (goal.at.returns-in_ok-first_of-in-Live c).After-find_wallet in
+    λ K.
+    c.sending_refusal.ensures K
+    ∙ passed _ (rest at K) c.first_of-in-Live.ensures c.in_ok-first_of-in-Live.was
+    ∙ passed _ _ c.first_of.ensures c.in_ok-first_of.was
+    ∙ paying_by _ _ _ _ K.receipts _ _ _ c.requires.5 (rw c.wallet-sender_frozen.ensures (ap (by at K) c.in-Live.ensures))
+
+pub returns-in-Closed : goal.returns-in-Closed
+returns-in-Closed c =
+    λ K. numbered_first _ c.first_of-in-Closed.ensures
+    ∙ passed _ _ c.first_of.ensures c.in_ok-first_of.was
+    ∙ paying_by _ _ _ _ K.receipts _ _ _ c.requires.5 (ap (by (goal.at.returns-in-Closed c).After-find_wallet K) c.in-Closed.ensures)

@@ -1,9 +1,8 @@
 -- `operation_refusal` meets its contract: each family gets what it requires from the ledger and the record, and answers for its operations.
-use mathlib.Core.List.{[]}
 use Prim.Native.Nat.{◌≤◌}
 use native.Mathlib.Omega.{arith}
 use Rattle.rules.specs.Limits.{TRANSFER, RELEASE}
-use Rattle.rules.specs.Ledger.{ledger, ledger_of}
+use Rattle.rules.specs.Moments.{ledger_in}
 use Rattle.rules.proofs.Calls.{by_op}
 use Rattle.refusals.proofs.Given.{header_there, wallets_few, escrows_few, receipts_few, wallets_fit, escrows_fit, entries, op_low, op_high, op_not_8, now_time, issued_time}
 use Rattle.refusals.proofs.Order.{either}
@@ -42,31 +41,31 @@ closing_refusal-requires c =
     (header_there c.requires, escrows_few c.requires, either RELEASE _ (omega arith) (omega arith), c.requires.sized)
 
 pub returns-in-1 : goal.returns-in-1
-returns-in-1 c = c.grant_refusal.ensures (ledger_of _ [] [] _ _ [])
+returns-in-1 c = c.grant_refusal.ensures (ledger_in c.args.ledger)
 
 pub returns-in-6 : goal.returns-in-6
 returns-in-6 c = c.claim_refusal.ensures
 
 pub returns-in-7 : goal.returns-in-7
-returns-in-7 c = c.reply_refusal.ensures (ledger_of _ [] _ _ [] [])
+returns-in-7 c = c.reply_refusal.ensures (ledger_in c.args.ledger)
 
 pub returns-in-9 : goal.returns-in-9
 returns-in-9 c = c.sweep_refusal.ensures _
 
 pub returns-in-10 : goal.returns-in-10
-returns-in-10 c = c.freeze_refusal.ensures (ledger_of _ [] [] _ _ [])
+returns-in-10 c = c.freeze_refusal.ensures (ledger_in c.args.ledger)
 
 pub returns-in-11 : goal.returns-in-11
-returns-in-11 c = c.caps_refusal.ensures (ledger_of _ [] [] _ _ [])
+returns-in-11 c = c.caps_refusal.ensures (ledger_in c.args.ledger)
 
 pub returns-in-12 : goal.returns-in-12
-returns-in-12 c = c.close_refusal.ensures (ledger [] [] [] _ [])
+returns-in-12 c = c.close_refusal.ensures (ledger_in c.args.ledger)
 
 pub returns-in-2 : goal.returns-in-2
-returns-in-2 c = c.paying_refusal.ensures (ledger [] [] [] _ [])
+returns-in-2 c = c.paying_refusal.ensures (ledger_in c.args.ledger)
 
 pub returns-in-4 : goal.returns-in-4
-returns-in-4 c = c.closing_refusal.ensures (ledger [] _ [] _ [])
+returns-in-4 c = c.closing_refusal.ensures (ledger_in c.args.ledger)
 
 pub returns-in_default : goal.returns-in_default
 returns-in_default c =

@@ -1,16 +1,27 @@
 -- `refusal` meets its contract: the envelope's refusal, or if there is none the operation's.
-use Rattle.refusals.proofs.Given.{header_there, journal_fit, op_low, op_high, now_time, issued_time}
-use Rattle.refusals.proofs.Order.{by_envelope, by_operation}
 use mathlib.Core.List.{[]}
+use mathlib.Core.Path.{◌∙◌}
 use Rattle.rules.specs.Ledger.{ledger_of}
+use Rattle.rules.specs.Moments.{ledger_in}
+use Rattle.rules.specs.Refusals.{envelope_refusals, operation_refusals}
+use Rattle.rules.proofs.Numbers.{refused_by, passed_by}
+use Rattle.refusals.proofs.Given.{header_there, journal_fit, op_low, op_high, now_time, issued_time}
+use Rattle.refusals.proofs.Order.{envelope_numbered}
 use Rattle.refusals.proofs.refusal.Goals as goal
 
-pub envelope_refusal-number-requires : goal.envelope_refusal-number-requires
-envelope_refusal-number-requires c =
+pub envelope_refusal-requires : goal.envelope_refusal-requires
+envelope_refusal-requires c =
     (header_there c.requires, journal_fit c.requires, op_low c.requires, op_high c.requires, now_time c.requires, issued_time c.requires)
 
-pub returns-then-number-ne0 : goal.returns-then-number-ne0
-returns-then-number-ne0 c = by_envelope _ _ _ (c.envelope_refusal-number.ensures (ledger_of _ [] _ _ _ [])) c.if-number-ne0.true
+pub returns-in_err-envelope_refusal : goal.returns-in_err-envelope_refusal
+returns-in_err-envelope_refusal c =
+    let L = ledger_in c.args.ledger in
+    refused_by _ (envelope_refusals L c.args.s) (operation_refusals L c.args.s) (c.envelope_refusal.ensures L) c.in_err-envelope_refusal.was
+    c.from_residual.ensures
 
 pub returns : goal.returns
-returns c = by_operation _ _ _ _ (c.envelope_refusal-number.ensures (ledger_of _ [] _ _ _ [])) c.if-number-ne0.false c.operation_refusal.ensures
+returns c =
+    let L = ledger_in c.args.ledger in
+    c.operation_refusal.ensures
+    ∙ passed_by (envelope_refusals L c.args.s) (operation_refusals L c.args.s) (envelope_numbered _ _) (c.envelope_refusal.ensures L)
+    c.in_ok-envelope_refusal.was

@@ -1,11 +1,7 @@
 -- `admin::open_to` meets its contract: after i rows, one is found just if one of them is open and to the id.
 use mathlib.Core.Path.{◌≡◌}
-use Prim.Native.Nat.{◌-◌, ◌≤◌}
 use Rattle.rules.specs.Wallets.{open_to}
 use Rattle.refusals.proofs.admin.open_to.Given as goal
 
 abbrev pub invariant-loop-i : goal.invariant-loop-i
-invariant-loop-i l = (l.i ≤ l.n) × (l.found ≡ open_to l.len l.escrows l.i l.id)
-
-abbrev pub decreases-loop-i : goal.decreases-loop-i
-decreases-loop-i l = l.n - l.i
+invariant-loop-i l = l.found ≡ open_to l.len l.escrows l.i l.id
