@@ -34,9 +34,12 @@ not_0 r = grind arith
 
 -- ---- What a `?` hands on, and what it lets pass
 
--- a refusal as it leaves the function, by the same number
+-- a refusal as it leaves the function, and its number
+pub hands_on : {B : Type 0} (whole : Result B Refusal) (r : Refusal) → IsErr whole × IsErrAnd whole (λ y. y ≡ r) → whole ≡ Err r
+hands_on whole r e = let p = err_from_is_err_and whole e.1 in p.1 ∙ ap Err p.2
+
 leaves : {B : Type 0} (whole : Result B Refusal) (r : Refusal) → IsErr whole × IsErrAnd whole (λ y. y ≡ r) → numbered whole ≡ number_of r
-leaves whole r e = let p = err_from_is_err_and whole e.1 in rw (p.1, p.2) refl
+leaves whole r e = ap numbered (hands_on whole r e)
 
 -- behind a table: the number of its first check that holds, or else the rest
 abbrev pub before : List (Bool × Refusal) → ℕ → ℕ
