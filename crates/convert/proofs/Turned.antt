@@ -1,4 +1,5 @@
 -- The converter over plain values: the two stores of an entry, from what was read of it, and the loop, an entry further.
+use Rattle.std.specs.Prelude.{Option}
 use mathlib.Core.Path.{◌≡◌, refl, sym, ap, ap₂, ◌∙◌}
 use mathlib.Core.List.{List}
 use Prim.Native.Nat.{ℕ, ◌+◌, ◌-◌, ◌*◌, ◌≤◌, ◌<◌}
@@ -9,26 +10,32 @@ use lib.Seq.{get_or-take, get_or-drop}
 use lib.Dec.{lit<}
 use Rattle.rules.specs.Limits.{RECORD_BYTES, OPERATION_AT, FLAGS_AT, ENTRY_BYTES}
 use Rattle.rules.specs.Table.{loop}
+use Rattle.rules.specs.Numbers.{read_as}
 use Rattle.rules.specs.Record.{read_by}
 use Rattle.rules.specs.Recording.{whole_entries}
 use Rattle.rules.specs.Convert.{old_operation, new_operation, new_flags, converted_at, converted}
 use Rattle.rules.specs.declared.Form.TheVariants.{Old}
 use Rattle.rules.specs.declared.Read.{Read}
+use Rattle.rules.specs.declared.Submission.{Submission}
 
 -- ---- an entry: the part as the code lends it, and both stores
 
-pub stored : (r : List ℕ) (at : ℕ) (x : Read) {op flags : ℕ} → x ≡ read_by Old (take (at + RECORD_BYTES - at) (drop at r))
-    → op ≡ new_operation x.submission.op → flags ≡ new_flags x.submission.op (get_or r (at + FLAGS_AT) 0)
+-- the operation of what is read
+abbrev pub read_operation : Option Submission → ℕ
+read_operation o = (read_as o).submission.op
+
+pub stored : (r : List ℕ) (at : ℕ) (o : Option Submission) (was : ℕ) {op flags : ℕ} → read_as o ≡ read_by Old (take (at + RECORD_BYTES - at) (drop at r))
+    → was ≡ read_operation o → op ≡ new_operation was → flags ≡ new_flags was (get_or r (at + FLAGS_AT) 0)
     → set (set r (at + OPERATION_AT) op) (at + FLAGS_AT) flags ≡ converted_at at r
 unfolding converted_at old_operation
-stored r at x read o f =
+stored r at o was read w e f =
     let n : at + RECORD_BYTES - at ≡ RECORD_BYTES = omega arith in
-    let old : x.submission.op ≡ (read_by Old (take RECORD_BYTES (drop at r))).submission.op =
-    ap (λ (y : Read). y.submission.op) (read ∙ ap (λ (k : ℕ). read_by Old (take k (drop at r))) n) in
+    let old : was ≡ (read_by Old (take RECORD_BYTES (drop at r))).submission.op =
+    w ∙ ap (λ (y : Read). y.submission.op) (read ∙ ap (λ (k : ℕ). read_by Old (take k (drop at r))) n) in
     let byte : get_or r (at + FLAGS_AT) 0 ≡ get_or (take RECORD_BYTES (drop at r)) FLAGS_AT 0 =
     sym (get_or-take RECORD_BYTES (drop at r) FLAGS_AT 0 (lit< tt) ∙ get_or-drop at r FLAGS_AT 0) in
     ap₂ (λ (a b : ℕ). set (set r (at + OPERATION_AT) a) (at + FLAGS_AT) b)
-    (o ∙ ap new_operation old) (f ∙ ap₂ new_flags old byte)
+    (e ∙ ap new_operation old) (f ∙ ap₂ new_flags old byte)
 
 -- ---- so far k entries
 

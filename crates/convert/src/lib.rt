@@ -34,8 +34,10 @@ fn convert_at(recording: &mut [u8], at: usize)
     requires { at + Limits.ENTRY_BYTES ≤ length recording.old }
     ensures { recording.new ≡ converted_at at recording.old }
 {
-    let read = record::read_by(Form::Old, &recording[at..at + RECORD_BYTES]);
-    let old = read.submission.op;
+    let old = match record::read_by(Form::Old, &recording[at..at + RECORD_BYTES]) {
+        Some(s) => s.op,
+        None => 0,
+    };
     let operation = new_operation(old);
     let flags = new_flags(old, recording[at + FLAGS_AT]);
     recording[at + OPERATION_AT] = operation;

@@ -1,16 +1,15 @@
 -- Starting afresh, over plain values: the five lengths from their tests, the header that is left, and the refusal.
 use mathlib.Core.Path.{◌≡◌, sym, ap, ◌∙◌}
-use mathlib.Core.List.{List, ◌∷◌, ◌++◌, append-nil}
-use mathlib.Core.Bool.{Bool, true, false, not, ◌&&◌}
+use mathlib.Core.List.{List, ◌∷◌}
+use mathlib.Core.Bool.{Bool, true, false, ◌&&◌}
 use Prim.Native.Nat.{ℕ, zero, suc, ◌-◌, ◌≤◌, ◌<◌}
 use native.Mathlib.Omega.{arith}
 use lib.Dec.{eqb}
-use lib.ListN.{length, set, drop, replicate, drop_of_length-le}
+use lib.ListN.{length, set, replicate}
 use Rattle.rules.specs.Limits.{HEADER_LEN, WALLET_LEN, RECEIPT_LEN, JOURNAL_LEN, MAX_WALLETS, MAX_ESCROWS, MAX_RECEIPTS, MAX_ENTRIES}
 use Rattle.rules.specs.Table.{table_right}
 use Rattle.rules.specs.Ledger.{Ledger, ledger_of, outcome, lengths_right, fresh, fresh_header}
 use Rattle.rules.specs.declared.Edition.{Edition}
-use Rattle.rules.proofs.Bools.{not_true_false, not_false_true}
 use Rattle.rules.proofs.Tests.{lengths_say, header_wide}
 
 -- the five tests as the code joins them
@@ -20,15 +19,9 @@ pub lengths_by : (ed : Edition) (h w e r j : List ℕ) {wr er rr jr : Bool} → 
 unfolding lengths_right
 lengths_by ed h w e r j a b c d = rw (a, b, c, d)
 
-pub refused : (L : Ledger) {b : Bool} → b ≡ lengths_right L → not b ≡ true → outcome 1 0 L ≡ fresh L
+pub refused : (L : Ledger) {b : Bool} → b ≡ lengths_right L → b ≡ false → outcome 1 0 L ≡ fresh L
 unfolding fresh
-refused L {b} x n = rw (sym x ∙ not_true_false b n)
-
--- zeros that have reached the end
-pub all_zeros : (k : ℕ) (t : List ℕ) → k ≤ length t → length t ≤ k → replicate k 0 ++ drop k t ≡ replicate (length t) 0
-all_zeros k t a b =
-    let e : k ≡ length t = omega arith in
-    ap (λ (s : List ℕ). replicate k 0 ++ s) (drop_of_length-le t b) ∙ append-nil (replicate k 0) ∙ ap (λ (n : ℕ). replicate n 0) e
+refused L {b} x n = rw (sym x ∙ n)
 
 -- the first word of zeros set
 number_first : (n v : ℕ) → 0 < n → set (replicate n 0) 0 v ≡ v ∷ replicate (n - 1) 0
@@ -36,12 +29,12 @@ number_first zero v l = absurd (omega arith)
 number_first (suc n) v l = let e : suc n - 1 ≡ n = omega arith in rw e
 
 pub started :
-    (ed : Edition) (h h' w e r j : List ℕ) {b : Bool} → HEADER_LEN ≤ ed.header → b ≡ lengths_right (ledger_of ed h w e r j) → not b ≡ false
+    (ed : Edition) (h h' w e r j : List ℕ) {b : Bool} → HEADER_LEN ≤ ed.header → b ≡ lengths_right (ledger_of ed h w e r j) → b ≡ true
     → h' ≡ replicate (length h) 0
     → outcome 0 0 (ledger_of ed (set h' 0 ed.number) w e r j) ≡ fresh (ledger_of ed h w e r j)
 unfolding fresh
 started ed h h' w e r j {b} wide x n p =
-    let t : lengths_right (ledger_of ed h w e r j) ≡ true = sym x ∙ not_false_true b n in
+    let t : lengths_right (ledger_of ed h w e r j) ≡ true = sym x ∙ n in
     let q : set h' 0 ed.number ≡ fresh_header ed =
     ap (λ (k : List ℕ). set k 0 ed.number) (p ∙ ap (λ (n : ℕ). replicate n 0) (lengths_say (ledger_of ed h w e r j) t).header)
     ∙ number_first ed.header ed.number (omega arith) in
@@ -49,6 +42,6 @@ started ed h h' w e r j {b} wide x n p =
 
 -- the header has all the named words
 pub header_long :
-    (ed : Edition) (h w e r j : List ℕ) {b : Bool} → HEADER_LEN ≤ ed.header → b ≡ lengths_right (ledger_of ed h w e r j) → not b ≡ false
+    (ed : Edition) (h w e r j : List ℕ) {b : Bool} → HEADER_LEN ≤ ed.header → b ≡ lengths_right (ledger_of ed h w e r j) → b ≡ true
     → HEADER_LEN ≤ length h
-header_long ed h w e r j {b} wide x n = header_wide (ledger_of ed h w e r j) (sym x ∙ not_false_true b n) wide
+header_long ed h w e r j {b} wide x n = header_wide (ledger_of ed h w e r j) (sym x ∙ n) wide

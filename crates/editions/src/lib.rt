@@ -3,49 +3,34 @@
 // tables, and no edition has it as a call.
 #![tactic(auto)]
 
-ghost use Rattle.std.specs.Prelude.{◌≡◌, length, replicate};
+ghost use Rattle.std.specs.Prelude.{◌≡◌};
 ghost use Rattle.rules.specs.Ledger.{Sized, outcome, lengths_right, fresh};
-ghost use Rattle.rules.specs.Moments.{tables, lent, tables_shown, shown};
+ghost use Rattle.rules.specs.Moments.{tables, lent, ledger_in};
+ghost use Rattle.rules.specs.Numbers.{numbered, word_of, decided_as};
 ghost use Rattle.rules.specs.Sound.{Ready};
 ghost use Rattle.rules.specs.Submit.{decided, submit};
 
 use rules::limits::{
-    BAD_TABLE, EDITION, JOURNAL_LEN, LEDGER_DAMAGED, MAX_ENTRIES, MAX_ESCROWS, MAX_RECEIPTS,
-    MAX_WALLETS, RECEIPT_LEN, WALLET_LEN,
+    EDITION, JOURNAL_LEN, MAX_ENTRIES, MAX_ESCROWS, MAX_RECEIPTS, MAX_WALLETS, RECEIPT_LEN,
+    WALLET_LEN,
 };
-use rules::{Answer, Edition, Read};
+use rules::refusal::Refusal;
+use rules::tables::Tables;
+use rules::{Decided, Edition, NOTHING};
 
 // Whether all five slices have right lengths.
-pub fn lengths_right(
-    edition: Edition,
-    header: &[u64],
-    wallets: &[u64],
-    escrows: &[u64],
-    receipts: &[u64],
-    journal: &[u64],
-) -> bool
-    requires { Sized edition }
-    ensures { result ≡ lengths_right (shown edition header wallets escrows receipts journal).entry }
+pub fn lengths_right(ledger: Tables<'_>) -> bool
+    requires { Sized ledger.edition }
+    ensures { result ≡ lengths_right (ledger_in ledger.entry) }
 {
-    let w = rows::table_right(wallets, WALLET_LEN, MAX_WALLETS);
-    let e = rows::table_right(escrows, edition.escrow, MAX_ESCROWS);
-    let r = rows::table_right(receipts, RECEIPT_LEN, MAX_RECEIPTS);
-    let j = rows::table_right(journal, JOURNAL_LEN, MAX_ENTRIES);
-    (header.len() == edition.header) & (w & (e & (r & j)))
+    let w = rows::table_right(ledger.wallets, WALLET_LEN, MAX_WALLETS);
+    let e = rows::table_right(ledger.escrows, ledger.edition.escrow, MAX_ESCROWS);
+    let r = rows::table_right(ledger.receipts, RECEIPT_LEN, MAX_RECEIPTS);
+    let j = rows::table_right(ledger.journal, JOURNAL_LEN, MAX_ENTRIES);
+    (ledger.header.len() == ledger.edition.header) & (w & (e & (r & j)))
 }
 
-// Zeros throughout.
-fn clear(t: &mut [u64])
-    ensures { t.new ≡ replicate (length t.old) 0 }
-{
-    let mut k: usize = 0;
-    while k < t.len() {
-        t[k] = 0;
-        k += 1;
-    }
-}
-
-// Starts afresh: 0, and the header is the edition's number and zeros; or 1 for a wrong length. Nothing else is touched.
+// Starts afresh: the header is the edition's number and zeros; or refuses a wrong length. Nothing else is touched.
 pub fn fresh(
     edition: Edition,
     header: &mut [u64],
@@ -53,48 +38,41 @@ pub fn fresh(
     escrows: &mut [u64],
     receipts: &mut [u64],
     journal: &mut [u64],
-) -> u64
+) -> Result<(), Refusal>
     requires { Sized edition }
-    ensures { let L = lent edition header wallets escrows receipts journal in outcome result 0 L.exit ≡ fresh L.entry }
+    ensures { let L = lent edition header wallets escrows receipts journal in outcome (numbered result) 0 L.exit ≡ fresh L.entry }
 {
-    if !lengths_right(edition, header, wallets, escrows, receipts, journal) {
-        return BAD_TABLE;
+    let ledger = Tables {
+        edition,
+        header,
+        wallets,
+        escrows,
+        receipts,
+        journal,
+    };
+    if !lengths_right(ledger) {
+        return Err(Refusal::BadTable);
     }
-    clear(header);
+    header.fill(0);
     header[EDITION] = edition.number;
-    0
+    Ok(())
 }
 
-// A refusal: its number, and the word 0.
-fn refused(number: u64) -> Answer
-    ensures { (result.number ≡ number) × (result.word ≡ 0) }
-{
-    Answer { number, word: 0 }
-}
-
-// The first half of a step: what the record is read as, and the number of its answer. Nothing is changed, so that a caller can still look at the
+// The first half of a step: what the record is read as, and whether it is refused. Nothing is changed, so that a caller can still look at the
 // tables before it settles, or not settle at all.
-pub fn decide(
-    edition: Edition,
-    header: &[u64],
-    wallets: &[u64],
-    escrows: &[u64],
-    receipts: &[u64],
-    journal: &[u64],
-    bytes: &[u8],
-) -> Read
-    requires { Sized edition × Ready (tables_shown edition header wallets escrows receipts journal) }
-    ensures { result ≡ decided (shown edition header wallets escrows receipts journal).entry bytes.now }
+pub fn decide(ledger: Tables<'_>, bytes: &[u8]) -> Decided
+    requires { Sized ledger.edition × Ready (ledger_in ledger) }
+    ensures { decided_as result ≡ decided (ledger_in ledger.entry) bytes.now }
 {
-    let read = record::read_record(bytes);
-    if read.number != 0 {
-        return read;
-    }
-    let s = read.submission;
-    let number = refusals::refusal(edition, header, wallets, escrows, receipts, journal, s);
-    Read {
-        number,
-        submission: s,
+    match record::read_record(bytes) {
+        Some(submission) => Decided {
+            submission,
+            outcome: refusals::refusal(ledger, submission),
+        },
+        None => Decided {
+            submission: NOTHING,
+            outcome: Err(Refusal::MalformedRecord),
+        },
     }
 }
 
@@ -108,14 +86,20 @@ pub fn step(
     receipts: &mut [u64],
     journal: &mut [u64],
     bytes: &[u8],
-) -> Answer
+) -> Result<u64, Refusal>
     requires { Sized edition × Ready (tables edition header wallets escrows receipts journal) }
-    ensures { let L = lent edition header wallets escrows receipts journal in outcome result.number result.word L.exit ≡ submit L.entry bytes.now }
+    ensures { let L = lent edition header wallets escrows receipts journal in outcome (numbered result) (word_of result) L.exit ≡ submit L.entry bytes.now }
 {
-    let decided = decide(edition, header, wallets, escrows, receipts, journal, bytes);
-    if decided.number != 0 {
-        return refused(decided.number);
-    }
+    let ledger = Tables {
+        edition,
+        header,
+        wallets,
+        escrows,
+        receipts,
+        journal,
+    };
+    let decided = decide(ledger, bytes);
+    decided.outcome?;
     let word = settling::settle(
         edition,
         header,
@@ -125,11 +109,11 @@ pub fn step(
         journal,
         decided.submission,
     );
-    Answer { number: 0, word }
+    Ok(word)
 }
 
-// A submission of any bytes over any five tables: the first refusal in the listed order, and nothing changed; or 0 with the answer's word,
-// and the ledger that document 01 lays down.
+// A submission of any bytes over any five tables: the first refusal in the listed order, and nothing changed; or the answer's word, and the
+// ledger that document 01 lays down.
 pub fn submit(
     edition: Edition,
     header: &mut [u64],
@@ -138,15 +122,23 @@ pub fn submit(
     receipts: &mut [u64],
     journal: &mut [u64],
     bytes: &[u8],
-) -> Answer
+) -> Result<u64, Refusal>
     requires { Sized edition }
-    ensures { let L = lent edition header wallets escrows receipts journal in outcome result.number result.word L.exit ≡ submit L.entry bytes.now }
+    ensures { let L = lent edition header wallets escrows receipts journal in outcome (numbered result) (word_of result) L.exit ≡ submit L.entry bytes.now }
 {
-    if !lengths_right(edition, header, wallets, escrows, receipts, journal) {
-        return refused(BAD_TABLE);
+    let ledger = Tables {
+        edition,
+        header,
+        wallets,
+        escrows,
+        receipts,
+        journal,
+    };
+    if !lengths_right(ledger) {
+        Err(Refusal::BadTable)
+    } else if !sound::is_sound(ledger) {
+        Err(Refusal::LedgerDamaged)
+    } else {
+        step(edition, header, wallets, escrows, receipts, journal, bytes)
     }
-    if !sound::is_sound(edition, header, wallets, escrows, receipts, journal) {
-        return refused(LEDGER_DAMAGED);
-    }
-    step(edition, header, wallets, escrows, receipts, journal, bytes)
 }

@@ -3,40 +3,15 @@
 
 ghost use Rattle.std.specs.Prelude.{◌≡◌, length};
 ghost use Rattle.rules.specs.Limits;
-ghost use Rattle.rules.specs.Record.{decode, encode, nothing, read_by, read_of, Written, write_of};
-ghost use Rattle.rules.specs.declared.Read.{Read};
+ghost use Rattle.rules.specs.Numbers.{numbered, read_as};
+ghost use Rattle.rules.specs.Record.{decode, encode, read_by, read_of, Written, write_of};
 
-use rules::limits::{MALFORMED_RECORD, MARK_0, MARK_1, RECORD_BYTES};
-use rules::{Form, Read, Submission};
+use rules::limits::{MARK_0, MARK_1, RECORD_BYTES};
+use rules::refusal::Refusal;
+use rules::{Form, Submission};
 
 mod form;
 pub mod trips;
-
-// What a malformed record is read as.
-fn malformed() -> Read
-    ensures { ◌≡◌ {A = Read} result (record { number = 3; submission = nothing }) }
-{
-    Read {
-        number: MALFORMED_RECORD,
-        submission: Submission {
-            op: 0,
-            flags: 0,
-            now: 0,
-            signer: 0,
-            nonce: 0,
-            issued: 0,
-            expires: 0,
-            target: 0,
-            amount: 0,
-            until: 0,
-            link: 0,
-            hash0: 0,
-            hash1: 0,
-            hash2: 0,
-            hash3: 0,
-        },
-    }
-}
 
 // The fields that 108 bytes say.
 fn fields(b: &[u8]) -> Submission
@@ -62,28 +37,25 @@ fn fields(b: &[u8]) -> Submission
     }
 }
 
-// Reads a record by a form: 0 and its fields, or 3 and every field 0.
-pub fn read_by(form: Form, bytes: &[u8]) -> Read
-    ensures { result ≡ read_by form bytes.now }
+// Reads a record by a form: its fields, or nothing of a malformed one.
+pub fn read_by(form: Form, bytes: &[u8]) -> Option<Submission>
+    ensures { read_as result ≡ read_by form bytes.now }
 {
     if bytes.len() != RECORD_BYTES {
-        return malformed();
+        return None;
     }
     let s = fields(bytes);
     let formed = form::well_formed(form, s);
     if (bytes[0] == MARK_0) & ((bytes[1] == MARK_1) & formed) {
-        Read {
-            number: 0,
-            submission: s,
-        }
+        Some(s)
     } else {
-        malformed()
+        None
     }
 }
 
 // Reads a record of today's form.
-pub fn read_record(bytes: &[u8]) -> Read
-    ensures { result ≡ read_of bytes.now }
+pub fn read_record(bytes: &[u8]) -> Option<Submission>
+    ensures { read_as result ≡ read_of bytes.now }
 {
     read_by(Form::Today, bytes)
 }
@@ -104,17 +76,16 @@ fn put_fields(s: Submission, out: &mut [u8])
     word_bytes::put_words(out, 4, &words);
 }
 
-// Writes a record: 0 and its bytes, or 3 and the output as it was.
-pub fn write_record(s: Submission, out: &mut [u8]) -> u64
-    ensures { ◌≡◌ {A = Written} (record { number = result; out = out.new }) (write_of s out.old) }
+// Writes a record; of one that would be malformed, or an output that is not as long as a record, the output stays as it was.
+pub fn write_record(s: Submission, out: &mut [u8]) -> Result<(), Refusal>
+    ensures { ◌≡◌ {A = Written} (record { number = numbered result; out = out.new }) (write_of s out.old) }
 {
     if out.len() != RECORD_BYTES {
-        return MALFORMED_RECORD;
+        return Err(Refusal::MalformedRecord);
     }
-    if form::well_formed(Form::Today, s) {
-        put_fields(s, out);
-        0
-    } else {
-        MALFORMED_RECORD
+    if !form::well_formed(Form::Today, s) {
+        return Err(Refusal::MalformedRecord);
     }
+    put_fields(s, out);
+    Ok(())
 }

@@ -5,14 +5,14 @@ ghost use Rattle.std.specs.Prelude.{◌≡◌, true, ◌≤◌, length};
 ghost use Rattle.rules.specs.Limits;
 ghost use Rattle.rules.specs.Table.{all};
 ghost use Rattle.rules.specs.Ledger.{Sized, lengths_right};
-ghost use Rattle.rules.specs.Moments.{tables_shown, shown};
+ghost use Rattle.rules.specs.Moments.{ledger_in};
 ghost use Rattle.rules.specs.Sound.{header_tests, sound};
 
-use rules::Edition;
 use rules::limits::{
     CLOCK, EDITION, ENTRIES, ESCROWS, GRANTED, JOURNAL_LEN, LAST_TIME_MS, RECEIPT_LEN, RECEIPTS,
     SYSTEM_FROZEN, WALLET_LEN, WALLETS,
 };
+use rules::tables::Tables;
 
 mod escrows;
 mod journal;
@@ -20,17 +20,18 @@ mod receipts;
 mod wallets;
 
 // The edition, a flag, the clock, and counts within their tables.
-fn header_right(
-    edition: Edition,
-    header: &[u64],
-    wallets: &[u64],
-    escrows: &[u64],
-    receipts: &[u64],
-    journal: &[u64],
-) -> bool
-    requires { (Limits.HEADER_LEN ≤ length header.now) × (Limits.ESCROW_LEN ≤ edition.escrow) }
-    ensures { result ≡ all (header_tests (shown edition header wallets escrows receipts journal).entry) }
+fn header_right(ledger: Tables<'_>) -> bool
+    requires { (Limits.HEADER_LEN ≤ length (ledger_in ledger).header) × (Limits.ESCROW_LEN ≤ ledger.edition.escrow) }
+    ensures { result ≡ all (header_tests (ledger_in ledger.entry)) }
 {
+    let Tables {
+        edition,
+        header,
+        wallets,
+        escrows,
+        receipts,
+        journal,
+    } = ledger;
     (header[EDITION] == edition.number)
         & ((header[SYSTEM_FROZEN] <= 1)
             & ((header[CLOCK] <= LAST_TIME_MS)
@@ -41,20 +42,21 @@ fn header_right(
 }
 
 // Whether the ledger is sound. Its tables have the right lengths.
-pub fn is_sound(
-    edition: Edition,
-    header: &[u64],
-    wallets: &[u64],
-    escrows: &[u64],
-    receipts: &[u64],
-    journal: &[u64],
-) -> bool
-    requires { (lengths_right (tables_shown edition header wallets escrows receipts journal) ≡ true) × Sized edition }
-    ensures { result ≡ sound (shown edition header wallets escrows receipts journal).entry }
+pub fn is_sound(ledger: Tables<'_>) -> bool
+    requires { (lengths_right (ledger_in ledger) ≡ true) × Sized ledger.edition }
+    ensures { result ≡ sound (ledger_in ledger.entry) }
 {
-    if !header_right(edition, header, wallets, escrows, receipts, journal) {
+    if !header_right(ledger) {
         return false;
     }
+    let Tables {
+        edition,
+        header,
+        wallets,
+        escrows,
+        receipts,
+        journal,
+    } = ledger;
     let n = header[WALLETS] as usize;
     let m = header[ESCROWS] as usize;
     if !wallets::wallets_right(wallets, n) {
