@@ -89,6 +89,7 @@ pub fn wallet_row(edition: Edition, header: &[u64], wallets: &[u64], id: u64) ->
     if !right | (id == 0) {
         return WalletState::Missing;
     }
+    // `as`, since std has no `From` between u64 and usize; both have 64 bits.
     let n = rows::at(header, WALLETS) as usize;
     rows::numbered::find_wallet(wallets, n, id)
 }

@@ -65,6 +65,7 @@ fn put_fields(s: Submission, out: &mut [u8])
     requires { length out.old ≡ Limits.RECORD_BYTES }
     ensures { out.new ≡ encode s }
 {
+    // Four stores compute to the head of the definition's bytes; a copy into `out[..4]` would want a law of its own, and is no plainer.
     out[0] = MARK_0;
     out[1] = MARK_1;
     out[2] = s.op;

@@ -94,6 +94,7 @@ pub fn count_right(
     ensures { result ≡ count_right header_len c len most header.now t.now }
 {
     let right = table_right(t, len, most);
+    // `as`, since std has no `From` between u64 and usize; both have 64 bits.
     (header.len() == header_len) & (right & (at(header, c) <= (t.len() / len) as u64))
 }
 
@@ -125,5 +126,6 @@ pub fn row_part<'a>(t: &'a [u64], len: usize, place: usize) -> &'a [u64]
     ensures { (result.now ≡ part_at len t.now place) × (result.ref_ptr ≡ placed t.entry.ref_ptr place) }
 {
     let end = (place + len).min(t.len());
+    // Not by std's `get`, which says what words it lends and not where they lie.
     &t[place..end]
 }

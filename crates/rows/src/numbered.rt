@@ -19,6 +19,7 @@ pub fn find_wallet(wallets: &[u64], n: usize, id: u64) -> WalletState
     if n <= row {
         return WalletState::Missing;
     }
+    // `as`, since std has no `From` between u64 and usize; both have 64 bits.
     let number = WalletNumber(row as u64 + 1);
     if wallets[row * WALLET_LEN + FROZEN] == IS_CLOSED {
         return WalletState::Closed(number);

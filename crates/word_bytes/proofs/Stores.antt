@@ -1,17 +1,10 @@
--- Stores of words in bytes: what is left to store, one step further and at the end, once for every width, and once for every number of words; and
--- that std's 8 bytes of a word, copied over a part, are that word stored there.
+-- Stores of words in bytes: what is left to store, one step further and at the end. Once for every width, and once for every number of words.
 use mathlib.Core.Path.{◌≡◌, refl, sym, ap, ap₂, ◌∙◌}
 use mathlib.Core.List.{List}
-use Prim.Native.Nat.{ℕ, suc, ◌+◌, ◌-◌, ◌/◌, ◌%◌, ◌≤◌, ◌<◌}
-use native.Mathlib.Nat.{div-div-eq-div-mul}
+use Prim.Native.Nat.{ℕ, suc, ◌+◌, ◌/◌, ◌%◌, ◌≤◌, ◌<◌}
 use native.Mathlib.Numerals.{add-one}
-use native.Mathlib.Omega.{arith}
 use lib.ListN.{get_or, set, length, drop, drop_of_length-le}
 use lib.Seq.{sets, drop-cons}
-use borrow.Rule.Slice.PartMut.{put_mid}
-use Rattle.std.specs.Int.{w64, to_le_bytes}
-use Rattle.std.proofs.lemmas.List.Edits.{sets-eq}
-use Rattle.std.proofs.lemmas.Slice.{put_mid-paste}
 use Rattle.rules.specs.Record.{le_bytes, word_bytes}
 use Rattle.rules.proofs.Rows.{sets_append}
 
@@ -31,13 +24,6 @@ le_all n b p x = refl
 pub le_done : (n : ℕ) (b : List ℕ) (p x : ℕ) → n ≡ 0 → le_put n b p x ≡ b
 unfolding le_put
 le_done n b p x e = ap (λ (k : ℕ). sets b p (le_bytes k x)) e
-
--- std's bytes of a word are ours, so a copy of them stores the word
-pub bytes_same : (w : ℕ) → to_le_bytes w64 w ≡ le_bytes 8 w
-bytes_same w = simp div-div-eq-div-mul
-
-pub word_stored : (b ys : List ℕ) (p w : ℕ) → p + 8 ≤ length b → ys ≡ to_le_bytes w64 w → put_mid p (p + 8 - p) b ys ≡ sets b p (le_bytes 8 w)
-word_stored b ys p w h x = put_mid-paste p (p + 8 - p) b ys (le_bytes 8 w) 8 (x ∙ bytes_same w) (omega arith) refl ∙ sym (sets-eq (le_bytes 8 w) b p h)
 
 -- the words from the i-th on, stored from place p on
 unfoldable pub words_put : List ℕ → ℕ → ℕ → List ℕ → List ℕ

@@ -31,7 +31,6 @@ pub fn put_words(b: &mut [u8], at: usize, words: &[u64])
     ensures { b.new ≡ sets b.old at (word_bytes words.now) }
 {
     for (i, &w) in words.iter().enumerate() {
-        let p = at + 8 * i;
-        b[p..p + 8].copy_from_slice(&w.to_le_bytes());
+        put_le(b, at + 8 * i, 8, w);
     }
 }

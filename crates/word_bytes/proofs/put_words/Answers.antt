@@ -1,18 +1,16 @@
 -- `word_bytes::put_words` meets its contract: what is left to store makes the whole.
 use mathlib.Core.Path.{sym, ◌∙◌}
-use Prim.Native.Nat.{◌+◌, ◌*◌, ◌≤◌, ◌<◌}
+use Prim.Native.Nat.{◌≤◌, ◌<◌}
 use native.Mathlib.Omega.{arith}
 use lib.ListN.{length}
-use Rattle.word_bytes.proofs.Stores.{words_all, words_next, words_done, word_stored}
+use Rattle.word_bytes.proofs.Stores.{words_all, words_next, words_done}
 use Rattle.word_bytes.proofs.put_words.Goals as goal
 
 pub loop-i-preserved : goal.loop-i-preserved
 loop-i-preserved c =
     let l = c.loop-i in
-    let a = c.args in
-    let h : l.i < length a.words.now = omega arith in
-    let room : a.at + 8 * l.i + 8 ≤ length l.b = omega arith in
-    l.invariant ∙ words_next _ _ _ _ _ _ h (omega arith) (word_stored _ _ _ _ room (c.copy_from_slice.ensures.after ∙ c.to_le_bytes.ensures))
+    let h : l.i < length c.args.words.now = omega arith in
+    l.invariant ∙ words_next _ _ _ _ _ _ h (omega arith) c.put_le.ensures
 
 pub returns : goal.returns
 returns c =
