@@ -1,11 +1,14 @@
 -- Any two answers that a public contract of `ledger` permits are equal, and so are the words left: each contract is an equation, so both are
--- what the definition gives.
+-- what the definition gives, and number and word decide an answer.
+use Rattle.std.specs.Prelude.{Result}
 use mathlib.Core.Path.{ap, ap₂}
 use mathlib.Core.List.{List}
 use Prim.Native.Nat.{ℕ}
-use Rattle.rules.specs.Ledger.{Outcome, outcome}
+use Rattle.rules.specs.Ledger.{Ledger, Outcome}
 use Rattle.rules.specs.Results.{Sole, Pair, pair}
 use Rattle.rules.specs.declared.WalletState.{WalletState}
+use Rattle.rules.specs.declared.refusal.Refusal.{Refusal}
+use Rattle.rules.proofs.Numbers.{same_outcome, same_answer}
 use Rattle.rules.proofs.Sole.{one}
 use Rattle.ledger.proofs.Surface.{five}
 use Rattle.ledger.proofs.fresh.Kinds as fresh_kinds
@@ -23,11 +26,17 @@ use Rattle.ledger.proofs.lookups.escrow_row.Reads as escrow_row_reads
 use Rattle.ledger.proofs.lookups.receipt_row.Kinds as receipt_row_kinds
 use Rattle.ledger.proofs.lookups.receipt_row.Reads as receipt_row_reads
 
-pub sole_fresh : Sole fresh_kinds.ps fresh_kinds.r fresh_reads.Learnt Outcome (λ κs x e. outcome x 0 (five e))
-sole_fresh κs a x y v w p q = one p q
+-- an answer, which its number decides, or its number and its word; and the five tables
+pub sole_fresh : Sole fresh_kinds.ps fresh_kinds.r fresh_reads.Learnt (Result Unit Refusal × Ledger) (λ κs x e. (x, five e))
+sole_fresh κs a x y v w p q =
+    let same = one p q in
+    ap₂ (λ (r : Result Unit Refusal) (L : Ledger). (r, L)) (same_outcome x y (ap (λ (o : Outcome). o.number) same)) (ap (λ (o : Outcome). o.left) same)
 
-pub sole_submit : Sole submit_kinds.ps submit_kinds.r submit_reads.Learnt Outcome (λ κs x e. outcome x.number x.word (five e))
-sole_submit κs a x y v w p q = one p q
+pub sole_submit : Sole submit_kinds.ps submit_kinds.r submit_reads.Learnt (Result ℕ Refusal × Ledger) (λ κs x e. (x, five e))
+sole_submit κs a x y v w p q =
+    let same = one p q in
+    ap₂ (λ (r : Result ℕ Refusal) (L : Ledger). (r, L))
+    (same_answer x y (ap (λ (o : Outcome). o.number) same) (ap (λ (o : Outcome). o.word) same)) (ap (λ (o : Outcome). o.left) same)
 
 -- what was found of a wallet, or a place, and the two slices lent
 pub sole_wallet_row : Sole wallet_kinds.ps wallet_kinds.r wallet_reads.Learnt (WalletState × Pair) (λ κs x e. (x, pair e.0.now e.1.0.now))

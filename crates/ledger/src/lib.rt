@@ -5,27 +5,29 @@
 ghost use Rattle.std.specs.Prelude.{◌≡◌};
 ghost use Rattle.rules.specs.Ledger.{first_edition, outcome, fresh};
 ghost use Rattle.rules.specs.Moments.{lent};
+ghost use Rattle.rules.specs.Numbers.{numbered, word_of};
 ghost use Rattle.rules.specs.Submit.{submit};
 
-use rules::{Answer, FIRST};
+use rules::FIRST;
+use rules::refusal::Refusal;
 
 pub mod lookups;
 
-// Starts afresh: 0, and the header is the edition's number and zeros; or 1 for a wrong length. Nothing else is touched.
+// Starts afresh: the header is the edition's number and zeros; or refuses a wrong length. Nothing else is touched.
 pub fn fresh(
     header: &mut [u64],
     wallets: &mut [u64],
     escrows: &mut [u64],
     receipts: &mut [u64],
     journal: &mut [u64],
-) -> u64
-    ensures { let L = lent first_edition header wallets escrows receipts journal in outcome result 0 L.exit ≡ fresh L.entry }
+) -> Result<(), Refusal>
+    ensures { let L = lent first_edition header wallets escrows receipts journal in outcome (numbered result) 0 L.exit ≡ fresh L.entry }
 {
     editions::fresh(FIRST, header, wallets, escrows, receipts, journal)
 }
 
-// A submission of any bytes over any five tables: the first refusal in the listed order, and nothing changed; or 0 with the answer's word,
-// and the ledger that document 01 lays down.
+// A submission of any bytes over any five tables: the first refusal in the listed order, and nothing changed; or the answer's word, and the
+// ledger that document 01 lays down.
 pub fn submit(
     header: &mut [u64],
     wallets: &mut [u64],
@@ -33,8 +35,8 @@ pub fn submit(
     receipts: &mut [u64],
     journal: &mut [u64],
     bytes: &[u8],
-) -> Answer
-    ensures { let L = lent first_edition header wallets escrows receipts journal in outcome result.number result.word L.exit ≡ submit L.entry bytes.now }
+) -> Result<u64, Refusal>
+    ensures { let L = lent first_edition header wallets escrows receipts journal in outcome (numbered result) (word_of result) L.exit ≡ submit L.entry bytes.now }
 {
     editions::submit(FIRST, header, wallets, escrows, receipts, journal, bytes)
 }
