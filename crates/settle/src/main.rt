@@ -4,18 +4,61 @@
 
 ghost use Rattle.std.specs.Prelude.{◌≤◌, IfOk};
 
-use rules::limits::{GRANTED, RECORD_BYTES};
+use rules::Answer;
+use rules::limits::{
+    ESCROW_LEN, GRANTED, HEADER_LEN, JOURNAL_LEN, RECEIPT_LEN, RECORD_BYTES, WALLET_LEN,
+};
 use std::io;
 use std::io::{ErrorKind, Read};
 
-const LAST_ORDINAL: u64 = 18446744073709551615;
+const WALLET_WORDS: usize = 64 * WALLET_LEN;
 
-fn line(rt: &impl Print, ordinal: u64, number: u64, word: u64) -> io::Result<()> {
-    println!(rt; "{ordinal} {number} {word}")
+const ESCROW_WORDS: usize = 128 * ESCROW_LEN;
+
+const RECEIPT_WORDS: usize = 128 * RECEIPT_LEN;
+
+const JOURNAL_WORDS: usize = 512 * JOURNAL_LEN;
+
+// The program's ledger. Its memory is fixed, and nothing is allocated.
+#[derive(Drop)]
+struct Tables {
+    header: [u64; HEADER_LEN],
+    wallets: [u64; WALLET_WORDS],
+    escrows: [u64; ESCROW_WORDS],
+    receipts: [u64; RECEIPT_WORDS],
+    journal: [u64; JOURNAL_WORDS],
+}
+
+impl Tables {
+    fn start(&mut self) {
+        // the lengths are right, so nothing is refused
+        let _ = ledger::fresh(
+            &mut self.header,
+            &mut self.wallets,
+            &mut self.escrows,
+            &mut self.receipts,
+            &mut self.journal,
+        );
+    }
+
+    fn submit(&mut self, bytes: &[u8]) -> Answer {
+        Answer::from(ledger::submit(
+            &mut self.header,
+            &mut self.wallets,
+            &mut self.escrows,
+            &mut self.receipts,
+            &mut self.journal,
+            bytes,
+        ))
+    }
+}
+
+fn line(rt: &impl Print, ordinal: u64, answer: Answer) -> io::Result<()> {
+    println!(rt; "{ordinal} {} {}", answer.number, answer.word)
 }
 
 // Reads until the buffer is full or the input ends, and says how many bytes it has read. A read that was interrupted is tried again.
-fn read_full(input: &mut impl Read, buffer: &mut [u8; 108]) -> io::Result<usize>
+fn read_full(input: &mut impl Read, buffer: &mut [u8; RECORD_BYTES]) -> io::Result<usize>
     ensures { IfOk result (λ n. n ≤ 108) }
 {
     let mut n: usize = 0;
@@ -39,36 +82,22 @@ fn step(
     rt: &impl Print,
     input: &mut impl Read,
     ordinal: u64,
-    header: &mut [u64],
-    wallets: &mut [u64],
-    escrows: &mut [u64],
-    receipts: &mut [u64],
-    journal: &mut [u64],
+    tables: &mut Tables,
 ) -> io::Result<bool> {
-    let mut buffer = [0u8; 108];
+    let mut buffer = [0u8; RECORD_BYTES];
     let n = read_full(input, &mut buffer)?;
     if n == 0 {
         return Ok(false);
     }
-    let answer = ledger::submit(header, wallets, escrows, receipts, journal, &buffer[..n]);
-    line(rt, ordinal, answer.number, answer.word)?;
+    line(rt, ordinal, tables.submit(&buffer[..n]))?;
     Ok(n == RECORD_BYTES)
 }
 
 // Every record of the input. The ordinal counts the turns, so that the loop is seen to end.
-fn run(
-    rt: &(impl Print + Input),
-    header: &mut [u64],
-    wallets: &mut [u64],
-    escrows: &mut [u64],
-    receipts: &mut [u64],
-    journal: &mut [u64],
-) -> io::Result<()> {
+fn run(rt: &(impl Print + Input), tables: &mut Tables) -> io::Result<()> {
     let mut input = rt.reader();
-    for ordinal in 1..LAST_ORDINAL {
-        if !step(
-            rt, &mut input, ordinal, header, wallets, escrows, receipts, journal,
-        )? {
+    for ordinal in 1..u64::MAX {
+        if !step(rt, &mut input, ordinal, tables)? {
             break;
         }
     }
@@ -76,26 +105,15 @@ fn run(
 }
 
 fn main(rt: HostRuntime) -> io::Result<()> {
-    let mut header = [0u64; 8];
-    let mut wallets = [0u64; 384];
-    let mut escrows = [0u64; 1024];
-    let mut receipts = [0u64; 1792];
-    let mut journal = [0u64; 4096];
-    ledger::fresh(
-        &mut header,
-        &mut wallets,
-        &mut escrows,
-        &mut receipts,
-        &mut journal,
-    );
-    run(
-        &rt,
-        &mut header,
-        &mut wallets,
-        &mut escrows,
-        &mut receipts,
-        &mut journal,
-    )?;
-    let granted = header[GRANTED];
+    let mut tables = Tables {
+        header: [0; HEADER_LEN],
+        wallets: [0; WALLET_WORDS],
+        escrows: [0; ESCROW_WORDS],
+        receipts: [0; RECEIPT_WORDS],
+        journal: [0; JOURNAL_WORDS],
+    };
+    tables.start();
+    run(&rt, &mut tables)?;
+    let granted = tables.header[GRANTED];
     println!(rt; "total {granted}")
 }
