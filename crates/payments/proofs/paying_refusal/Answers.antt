@@ -27,18 +27,6 @@ rest c K =
 abbrev by : (c : After-find_wallet) → Ledger → WalletState → ℕ
 by c K = by_sender c.args.wallets.now (eqb c.args.s.target 0 || eqb c.args.s.target c.args.s.signer) (rest c K)
 
--- a live sender's number
-sends : (c : In-Live) → c.in-Live.sender.0 ≡ row_of c.args.wallets.now (get_or c.args.header.now WALLETS 0) c.args.s.signer + 1
-sends c = (look_says _ _ _ _ c.in-Live.ensures).2
-
-pub wallet-sender_frozen-requires : goal.wallet-sender_frozen-requires
-wallet-sender_frozen-requires c = (names_found _ _ _ _ c.requires.1 (sends c), search rules)
-
-pub sending_refusal-requires : goal.sending_refusal-requires
-sending_refusal-requires c =
-    let pre = c.requires in
-    (pre.0, pre.1, pre.2, pre.3, pre.4, pre.6, sends (goal.at.sending_refusal-requires c).In-Live)
-
 pub returns-in_err-first_of : goal.returns-in_err-first_of
 returns-in_err-first_of c =
     λ K. refused _ _ _ c.first_of.ensures c.in_err-first_of.was c.from_residual.ensures ∙ paying_by _ _ _ _ K.receipts _ _ _ c.requires.5 refl

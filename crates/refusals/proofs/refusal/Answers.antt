@@ -9,10 +9,6 @@ use Rattle.refusals.proofs.Given.{header_there, journal_fit, op_low, op_high, no
 use Rattle.refusals.proofs.Order.{envelope_numbered}
 use Rattle.refusals.proofs.refusal.Goals as goal
 
-pub envelope_refusal-requires : goal.envelope_refusal-requires
-envelope_refusal-requires c =
-    (header_there c.requires, journal_fit c.requires, op_low c.requires, op_high c.requires, now_time c.requires, issued_time c.requires)
-
 pub returns-in_err-envelope_refusal : goal.returns-in_err-envelope_refusal
 returns-in_err-envelope_refusal c =
     let L = ledger_in c.args.ledger in

@@ -14,12 +14,6 @@ use Rattle.refusals.proofs.admin.close_refusal.Goals.{After-find_wallet}
 abbrev by : After-find_wallet → WalletState → ℕ
 by c = let start = c.args in closing start.edition start.header.now start.wallets.now start.escrows.now start.journal.now start.s
 
-pub wallet-balance-requires : goal.wallet-balance-requires
-wallet-balance-requires c = (names_found _ _ _ _ c.requires.1 (look_says _ _ _ _ c.in-Live.ensures).2, search rules)
-
-pub wallet-locked-requires : goal.wallet-locked-requires
-wallet-locked-requires c = (names_found _ _ _ _ c.requires.1 (look_says _ _ _ _ c.in-Live.ensures).2, search rules)
-
 pub returns-in-Missing : goal.returns-in-Missing
 returns-in-Missing c =
     λ K. close_by _ _ _ _ K.receipts _ _ _ c.requires.4 (ap (by (goal.at.returns-in-Missing c).After-find_wallet) c.in-Missing.ensures)
