@@ -1,11 +1,10 @@
 -- The daily sum as a whole number, row by row: it fits a word because each counted row is a transfer or an open, of at most 10^15.
-use mathlib.Core.Path.{◌≡◌, refl, sym, ap, ◌∙◌}
+use mathlib.Core.Path.{◌≡◌, refl, sym, ◌∙◌}
 use mathlib.Core.List.{List}
 use mathlib.Core.Bool.{Bool, true, false, cond, ◌&&◌, ◌||◌, or-false}
-use Prim.Native.Nat.{ℕ, ◌+◌, ◌-◌, ◌*◌, ◌^◌, ◌≤◌, ◌<◌}
+use Prim.Native.Nat.{ℕ, ◌+◌, ◌*◌, ◌^◌, ◌≤◌, ◌<◌}
 use native.Mathlib.Omega.{arith}
-use lib.Dec.{eqb, ltb, leb}
-use borrow.Author.Tests.{ltb-true, ltb-false, lt-ltb, le-ltb}
+use lib.Dec.{eqb, leb}
 use Rattle.rules.specs.Limits.{JOURNAL_LEN, SIGNER, OPERATION, ENTRY_AMOUNT, SETTLED_AT, TRANSFER, OPEN, DAY_MS, MAX_AMOUNT_MICRO}
 use Rattle.rules.specs.Table.{word}
 use Rattle.rules.proofs.Bools.{and_fst, and_snd}

@@ -96,5 +96,17 @@ either n op lo hi = go (ℕ_discrete op n)
 
 -- all of them, from which what a check asks is found
 pub ruleset given = (
-  header_there, wallets_few, escrows_few, receipts_few, wallets_fit, escrows_fit, journal_fit, entries, op_low, op_high, now_time, issued_time, either
+  header_there,
+  wallets_few,
+  escrows_few,
+  receipts_few,
+  wallets_fit,
+  escrows_fit,
+  journal_fit,
+  entries,
+  op_low,
+  op_high,
+  now_time,
+  issued_time,
+  either,
 )

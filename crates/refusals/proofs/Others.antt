@@ -1,8 +1,8 @@
 -- A sweep, a freeze, new caps and a close: the rows that the table of refusals leaves for each, and that its checks answer by the first of them, in
 -- each case of what looking up the target finds.
-use mathlib.Core.Path.{◌≡◌, refl, sym, subst, ◌∙◌}
+use mathlib.Core.Path.{◌≡◌, refl, sym, ◌∙◌}
 use mathlib.Core.List.{List, [], ◌∷◌}
-use mathlib.Core.Bool.{Bool, true, false, not, cond, ◌&&◌, ◌||◌, or-false, and-true, and-false}
+use mathlib.Core.Bool.{Bool, not, cond, ◌&&◌, ◌||◌, or-false, and-true, and-false}
 use Prim.Native.Nat.{ℕ, ◌+◌, ◌-◌}
 use lib.ListN.{get_or}
 use lib.Dec.{eqb, ltb}

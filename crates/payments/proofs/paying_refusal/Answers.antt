@@ -1,19 +1,14 @@
 -- `payments::paying_refusal` meets its contract: each arm is told what was found of the sender.
-use mathlib.Core.Path.{◌≡◌, refl, ap, ◌∙◌}
+use mathlib.Core.Path.{refl, ap, ◌∙◌}
 use mathlib.Core.Bool.{◌||◌}
-use Prim.Native.Nat.{ℕ, ◌+◌}
+use Prim.Native.Nat.{ℕ}
 use lib.Dec.{eqb}
-use lib.ListN.{get_or}
-use Rattle.rules.specs.Limits.{WALLETS}
-use Rattle.rules.specs.Ledger.{Ledger, row_of, ledger_of}
+use Rattle.rules.specs.Ledger.{Ledger, ledger_of}
 use Rattle.rules.specs.Refusals.{first}
 use Rattle.rules.specs.declared.WalletState.{WalletState}
 use Rattle.rules.proofs.Numbers.{numbered_first, refused, passed}
-use Rattle.rules.proofs.Wallets.{look_says}
-use Rattle.rows.proofs.Found.{names_found}
 use Rattle.payments.specs.Sending.{sending_refusals}
 use Rattle.payments.proofs.Paying.{by_sender, paying_by}
-use borrow.Author.Rules.{rules}
 use Rattle.payments.proofs.paying_refusal.Goals as goal
 use Rattle.payments.proofs.paying_refusal.Goals.{After-find_wallet, In-Live}
 

@@ -1,13 +1,9 @@
 -- `payments::sending_refusal` meets its contract: each arm is told what was found of the recipient.
 use mathlib.Core.Path.{ap, ◌∙◌}
 use Prim.Native.Nat.{◌-◌}
-use native.Mathlib.Omega.{arith}
 use Rattle.rules.proofs.Numbers.{numbered_first}
-use Rattle.rows.specs.Numbered.{Names}
-use Rattle.rows.proofs.Found.{names_found}
 use Rattle.payments.proofs.Recipient.{by_recipient}
 use Rattle.payments.proofs.Paying.{limits, sending_by}
-use borrow.Author.Rules.{rules}
 use Rattle.payments.proofs.sending_refusal.Goals as goal
 use Rattle.payments.proofs.sending_refusal.Goals.{in-Missing, in-Live}
 

@@ -1,7 +1,6 @@
 -- `operation_refusal` meets its contract: each family gets what it requires from the ledger and the record, and answers for its operations.
 use Prim.Native.Nat.{◌≤◌}
 use native.Mathlib.Omega.{arith}
-use Rattle.rules.specs.Limits.{TRANSFER, RELEASE}
 use Rattle.rules.specs.Moments.{ledger_in}
 use Rattle.rules.proofs.Calls.{by_op}
 use Rattle.refusals.proofs.Given.{op_low, op_high, op_not_8}

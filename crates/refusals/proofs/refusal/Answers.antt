@@ -1,11 +1,8 @@
 -- `refusal` meets its contract: the envelope's refusal, or if there is none the operation's.
-use mathlib.Core.List.{[]}
 use mathlib.Core.Path.{◌∙◌}
-use Rattle.rules.specs.Ledger.{ledger_of}
 use Rattle.rules.specs.Moments.{ledger_in}
 use Rattle.rules.specs.Refusals.{envelope_refusals, operation_refusals}
 use Rattle.rules.proofs.Numbers.{refused_by, passed_by}
-use Rattle.refusals.proofs.Given.{header_there, journal_fit, op_low, op_high, now_time, issued_time}
 use Rattle.refusals.proofs.Order.{envelope_numbered}
 use Rattle.refusals.proofs.refusal.Goals as goal
 

@@ -1,6 +1,5 @@
 -- `sums::counted` meets its contract: so far the sum is that of the rows before i.
-use mathlib.Core.Path.{◌≡◌, sym}
-use native.Mathlib.Omega.{arith}
+use mathlib.Core.Path.{sym}
 use Rattle.payments.proofs.Whole.{counted_none, counted_next, counted_fits}
 use borrow.Author.Rules.{rules}
 use Rattle.payments.proofs.sums.counted.Goals as goal

@@ -3,10 +3,7 @@ use mathlib.Core.Path.{ap, ◌∙◌}
 use Prim.Native.Nat.{ℕ}
 use Rattle.rules.specs.declared.WalletState.{WalletState}
 use Rattle.rules.proofs.Numbers.{numbered_first}
-use Rattle.rules.proofs.Wallets.{look_says}
-use Rattle.rows.proofs.Found.{names_found}
 use Rattle.refusals.proofs.Others.{closing, close_by}
-use borrow.Author.Rules.{rules}
 use Rattle.refusals.proofs.admin.close_refusal.Goals as goal
 use Rattle.refusals.proofs.admin.close_refusal.Goals.{After-find_wallet}
 
