@@ -86,6 +86,7 @@ fn open_to(escrows: &[u64], len: usize, n: usize, id: u64) -> bool
 }
 
 // A close: checks 16, 43, 42, 40, in this order.
+#[tactic(auto, using(rules::proofs::Wallets::live_row, rows::proofs::Found::names_found))]
 pub fn close_refusal(
     edition: Edition,
     header: &[u64],
