@@ -2,44 +2,21 @@
 use mathlib.Core.Path.{◌≡◌, refl, sym, ap, ◌∙◌}
 use mathlib.Core.Bool.{Bool, true, false, cond}
 use mathlib.Core.List.{List}
-use Prim.Native.Nat.{ℕ, ◌+◌, ◌-◌, ◌≤◌, ◌<◌}
-use native.Mathlib.Nat.{not-suc-le-zero}
+use Prim.Native.Nat.{ℕ, ◌+◌, ◌-◌, ◌<◌}
 use native.Mathlib.Omega.{arith}
-use native.Mathlib.Decide.{ℕ_discrete}
-use lib.Dec.{eqb, ltb}
-use lib.ListN.{get_or, set, length, length-set}
-use lib.Seq.{get_or-set_same, get_or-set_other}
-use borrow.Author.Tests.{lt-ltb, eqb-false}
+use lib.Dec.{ltb}
+use lib.ListN.{get_or}
+use borrow.Author.Tests.{lt-ltb}
 use Rattle.std.specs.Prelude.{Option, None, Some, IfSome, MatchOption}
 use Rattle.std.specs.Option.{option_and}
 use Rattle.rules.specs.Wallets.{numbered}
 use Rattle.rules.specs.declared.WalletNumber.{WalletNumber}
-use Rattle.rules.specs.Limits.{WALLET_LEN, MAX_WALLETS, ID}
+use Rattle.rules.specs.Limits.{WALLET_LEN, ID}
 use Rattle.rules.specs.Table.{word, distinct}
 use Rattle.rules.specs.Ledger.{row_of}
 use Rattle.rules.proofs.Counts.{distinct_ext}
 use Rattle.rules.proofs.Accounts.{first_row}
-use Rattle.index.specs.Index.{NUMBERS, id_at, Copied, Hit, Indexed, wallet_number, number_of, sender_of}
-
--- one id more is copied
-pub copied_none : (w ids : List ℕ) → length ids ≡ NUMBERS → Copied w 0 ids
-copied_none w ids l = record { room = l; same = λ i h. absurd (not-suc-le-zero h) }
-
-pub copied_more : (w ids : List ℕ) (n : ℕ) → n < MAX_WALLETS → Copied w n ids → Copied w (n + 1) (set ids (n + 1) (word w WALLET_LEN n ID))
-copied_more w ids n l h = record { room = simp length-set h.room; same = λ i k. go i k (ℕ_discrete i n) }
-  where
-    go : (i : ℕ) → i < n + 1 → Dec (i ≡ n) → id_at (set ids (n + 1) (word w WALLET_LEN n ID)) i ≡ word w WALLET_LEN i ID
-    go i k (yes e) = rw (e, get_or-set_same ids (n + 1) (word w WALLET_LEN n ID) 0 (omega (arith, h.room)))
-    go i k (no e) = get_or-set_other ids (n + 1) (i + 1) (word w WALLET_LEN n ID) 0 (omega (arith, e)) ∙ h.same i (omega (arith, e))
-
--- a number that has the id, if it is a wallet's
-pub hit_here : (ids : List ℕ) (n x s : ℕ) (r : Option WalletNumber) → s ≤ n → (0 < s → get_or ids s 0 ≡ x) → r ≡ wallet_number s
-    → IfSome r (λ number. Hit ids n x number.0)
-hit_here ids n x s r l e q = rw q (go (eqb s 0) refl)
-  where
-    go : (b : Bool) → eqb s 0 ≡ b → IfSome {T = WalletNumber} (cond b None (Some (record { 0 = s }))) (λ number. Hit ids n x number.0)
-    go true z = tt
-    go false z = let p : 0 < s = omega (arith, eqb-false s 0 z) in record { low = p; high = l; has = e p }
+use Rattle.index.specs.Index.{id_at, Hit, Indexed, number_of, sender_of}
 
 -- where ids differ as copied, they differ in the table
 pub indexed_apart : (w : List ℕ) (n : ℕ) (ids t : List ℕ) → Indexed w n ids t → distinct n (λ i. word w WALLET_LEN i ID) ≡ true

@@ -3,16 +3,13 @@ use mathlib.Core.Path.{◌≡◌, refl, sym, ap, ◌∙◌}
 use mathlib.Core.Bool.{Bool, true, false, cond}
 use mathlib.Core.List.{List}
 use Prim.Native.Nat.{ℕ, zero, suc, ◌+◌, ◌-◌, ◌*◌, ◌/◌, ◌%◌, ◌≤◌, ◌<◌}
-use native.Mathlib.Nat.{not-suc-le-zero}
 use native.Mathlib.Omega.{arith}
 use native.Mathlib.Decide.{ℕ_discrete, dec_lt}
 use lib.Dec.{eqb}
 use lib.ListN.{get_or, set, length, length-set, replicate, length-replicate}
 use lib.Seq.{get_or-set_same, get_or-set_other, set_out}
 use borrow.Author.Tests.{eq-eqb, ne_eqb, eqb-true, eqb-false}
-use Rattle.std.specs.Prelude.{Option, Some, is_some}
-use Rattle.std.specs.Bool.{then_some}
-use Rattle.rules.specs.Table.{distinct}
+use Rattle.std.specs.Prelude.{Some}
 use Rattle.rules.proofs.Rows.{zeros}
 use Rattle.rules.proofs.Counts.{taken_back}
 use Rattle.index.specs.Index.{ROOTS, BRANCHES, PLACES, STEPS, id_at, Within, walked, walk, Seated, Filled}
@@ -105,15 +102,9 @@ module _ (ids t : List ℕ) (x : ℕ) where
   unfolding walk
   walk_kept q v r z l e = kept q v z STEPS (x % ROOTS) (x / ROOTS) r l e
 
-pub within_le : (m n : ℕ) (t : List ℕ) → m ≤ n → Within m t → Within n t
-within_le m n t l h = record { room = h.room; most = λ p. omega (arith, h.most p) }
-
 -- the walk of each of the first n ids meets its number
 pub record Back (ids : List ℕ) (n : ℕ) (t : List ℕ) : Type 0 where
   pub back : (j : ℕ) → j < n → walk ids t (id_at ids j) ≡ j + 1
-
-pub back_none : (ids t : List ℕ) → Back ids 0 t
-back_none ids t = record { back = λ j h. absurd (not-suc-le-zero h) }
 
 pub back_more : (ids t : List ℕ) (n place : ℕ) → Back ids n t → Seated ids t (id_at ids n) place → Back ids (n + 1) (set t place (n + 1))
 back_more ids t n place h s = record { back = λ j k. go j k (ℕ_discrete j n) }
@@ -122,15 +113,6 @@ back_more ids t n place h s = record { back = λ j k. go j k (ℕ_discrete j n) 
     go j k (yes e) = rw e (s.leads (n + 1) (omega arith) refl)
     go j k (no e) = walk_kept ids t (id_at ids j) place (n + 1) (j + 1) s.free (omega arith) (h.back j (omega (arith, e)))
 
--- every id is in the index, so ids differ; or they were compared
+-- every id is in the index, so ids differ
 pub filled_all : (ids t : List ℕ) (n most : ℕ) → Within n t → Back ids n t → Filled ids n t (Some most)
 filled_all ids t n most w b = record { within = w; right = sym (taken_back n (id_at ids) (walk ids t) b.back) }
-
-pub filled_compared : (ids t : List ℕ) (n i most : ℕ) (b : Bool) (r : Option ℕ) → i ≤ n → Within i t
-    → b ≡ distinct n (id_at ids) → r ≡ then_some b most → Filled ids n t r
-filled_compared ids t n i most b r l w d e =
-    rw e (record { within = within_le i n t l w; right = some_then b ∙ d })
-  where
-    some_then : (b : Bool) → is_some (then_some b most) ≡ b
-    some_then true = refl
-    some_then false = refl

@@ -149,6 +149,7 @@ fn far(ids: &[u64; NUMBERS], t: &[u16; PLACES], n: usize, x: u64) -> Option<Wall
 {
     let mut s = root(t, n, x as usize);
     let mut y = x as usize / ROOTS;
+    // 0 for none, as the steps have no branch
     let mut hit: usize = 0;
     for _ in 0..STEPS {
         if ids[s] == x {
@@ -201,7 +202,8 @@ fn proposed(
 }
 
 // The number of the wallet `from`, if that and `to` have one. `look_on` stands here twice, and in no function of its own with `proposed`, so
-// that the compiler has the few steps of `near` in line and the rest out of the way.
+// that the compiler has the few steps of `near` in line and the rest out of the way. What all these take goes as plain parameters: a struct of
+// them, lent or copied, lies in memory for `look_on`, and the test of soundness took 5 to 10 % longer.
 pub fn sender(
     w: &[u64],
     ids: &[u64; NUMBERS],

@@ -2,18 +2,13 @@
 use mathlib.Core.Path.{◌≡◌, sym, ◌∙◌}
 use lib.ListN.{get_or}
 use native.Mathlib.Omega.{arith}
-use Prim.Native.Nat.{ℕ, ◌≤◌}
+use Prim.Native.Nat.{ℕ}
 use Rattle.index.proofs.Walks.{walk_start, walk_on, walk_end}
 use borrow.Author.Rules.{rules}
 use Rattle.index.proofs.seat_for.Goals as goal
-use Rattle.index.proofs.seat_for.Goals.{After-from-s}
 
 pub loop-step-init : goal.loop-step-init
 loop-step-init c = (search rules, walk_start _ _ _)
-
--- the number that a place proposes is within n
-within : (c : After-from-s) → c.from-s.result ≤ c.args.n
-within c = omega (arith, c.from-s.ensures, c.requires.1.most c.loop-step.p)
 
 pub returns-then-s-eq0 : goal.returns-then-s-eq0
 returns-then-s-eq0 c =
@@ -26,24 +21,9 @@ returns-then-s-eq0 c =
       leads = walk_end a.ids.now a.t.now a.x l.step l.p l.y l.invariant.1 (omega arith) (omega (arith, c.requires.1.room)) z;
     }
 
-pub offset_bounds-ids-s : goal.offset_bounds-ids-s
-offset_bounds-ids-s c = omega (arith, within (goal.at.offset_bounds-ids-s c).After-from-s)
-
-pub bounds-ids-s : goal.bounds-ids-s
-bounds-ids-s c = omega (arith, within (goal.at.bounds-ids-s c).After-from-s)
-
-pub overflow_mul-p : goal.overflow_mul-p
-overflow_mul-p c = omega (arith, within (goal.at.overflow_mul-p c).After-from-s)
-
-pub overflow_add-p : goal.overflow_add-p
-overflow_add-p c = omega (arith, within (goal.at.overflow_add-p c).After-from-s)
-
-pub overflow_add-p-in-loop-step : goal.overflow_add-p-in-loop-step
-overflow_add-p-in-loop-step c = omega (arith, within (goal.at.overflow_add-p-in-loop-step c).After-from-s)
-
 pub loop-step-preserved : goal.loop-step-preserved
 loop-step-preserved c =
     let l = c.loop-step in (
-      omega (arith, within (goal.at.loop-step-preserved c).After-from-s),
+      omega (arith, c.from-s.ensures, c.requires.1.most l.p),
       walk_on _ _ _ l.step l.p l.y _ l.invariant.1 (omega arith) c.from-s.ensures c.if-s-eq0.false c.if-ids-s.false,
     )
