@@ -2,7 +2,7 @@
 -- and the five figures of a whole sweep.
 use mathlib.Core.Path.{◌≡◌, refl, sym, ap, ◌∙◌, subst}
 use mathlib.Core.List.{List, [], ◌∷◌}
-use Prim.Native.Nat.{ℕ, ◌+◌, ◌-◌, ◌*◌, ◌<◌, ◌≤◌, ◌^◌}
+use Prim.Native.Nat.{ℕ, ◌+◌, ◌-◌, ◌*◌, ◌<◌, ◌≤◌}
 use native.Mathlib.Omega.{arith}
 use lib.ListN.{get_or}
 use Rattle.std.specs.Prelude.{Option, Some, None}
@@ -14,7 +14,6 @@ use Rattle.rules.specs.Settle.{Sweep, sweep_escrow, swept_receipts, swept}
 use Rattle.rules.proofs.Bools.{cond_case}
 use Rattle.rules.proofs.Good.{amount_most}
 use Rattle.rules.proofs.Adds.{figures}
-use Rattle.rows.specs.Numbered.{Names}
 use Rattle.sweeping.proofs.Turns.{loop_none, loop_next, loop_full, escrow_full}
 use Rattle.adding.specs.Needs.{Expires}
 use Rattle.adding.specs.Turns.{expires, expired_turn, Ended, Receipted}
@@ -42,9 +41,6 @@ start ed h e time limit = record {
 }
 
 module _ (ed : Edition) (h e : List ℕ) (time : ℕ) (s : Expires ed h e time) where
-  pub can_turn : (number : ℕ) → number < get_or h ESCROWS 0 → Names (number + 1) × (ed.escrow < 2 ^ 16)
-  can_turn number l = (record { low = omega arith; high = omega (arith, s.sweeps.sweeping.small.escrows) }, s.sweeps.sweeping.len)
-
   module _ (limit rows amount number : ℕ) (far : SoFar ed h e time limit rows amount number) where
     -- the next escrow, as the code has it: by its number, which is one more
     module _ (o : Option ℕ) (l : number < get_or h ESCROWS 0) (p : o ≡ expired_turn ed e time (number + 1 - 1)) where

@@ -17,9 +17,8 @@ use Rattle.rules.specs.Settle.{Sweep, sweep_start, sweep_receipt, swept_receipts
 use Rattle.rules.proofs.Bools.{and_fst, and_snd, not_true_false, cond_case}
 use Rattle.rules.proofs.Good.{Good, amount_most}
 use Rattle.rules.proofs.Stays.{link_row}
-use Rattle.rows.specs.Numbered.{Names}
 use Rattle.sweeping.proofs.Turns.{loop_none, loop_next, loop_full, receipt_full}
-use Rattle.adding.specs.Needs.{Links, Sweeps}
+use Rattle.adding.specs.Needs.{Sweeps}
 use Rattle.adding.specs.Turns.{linked, frees_now, freed_now, marked_now, closes, closed_turn, closed_marks, Unmarked, Receipted}
 use Rattle.adding.proofs.Counted.{rows_of, amount_of, one_row, Counted}
 use Rattle.adding.proofs.Laid.{Laid, laid_start, laid_turn}
@@ -50,14 +49,7 @@ module _ (ed : Edition) (h e r : List ℕ) (time : ℕ) (s : Sweeps ed h e r tim
   abbrev L₀ : Ledger
   L₀ = ledger_of ed h s.wallets e r []
 
-  -- a receipt's link names an escrow that can be marked, and what it releases is the amount of an escrow
-  pub can_turn : (number : ℕ) → number < get_or h RECEIPTS 0 → Names (number + 1) × Links ed r (number + 1 - 1)
-  can_turn number l =
-      let i : number + 1 - 1 ≡ number = omega arith in (
-        record { low = omega arith; high = omega (arith, s.sweeping.small.receipts) },
-        subst (Links ed r) (sym i) (record { len = s.sweeping.len; link = omega (arith, s.sweeping.small.escrows, s.sweeping.good.links number l) }),
-      )
-
+  -- what a receipt releases is the amount of an escrow
   freed_small : (marks : List Bool) (number : ℕ) → number < get_or h RECEIPTS 0 → freed_now ed e r marks time number ≤ MAX_AMOUNT_MICRO
   unfolding freed_now
   freed_small marks number l =

@@ -97,10 +97,10 @@ fn receipt_turn(
     let state = numbered::receipt(receipts, number, RECEIPT_STATE);
     let deadline = numbered::receipt(receipts, number, ACCEPTANCE_DEADLINE);
     if sweeping::is_due(state, PENDING, deadline, time) {
-        let amount = auto_accepted(edition, escrows, receipts, marks, number, time);
-        return Some(amount);
+        Some(auto_accepted(edition, escrows, receipts, marks, number, time))
+    } else {
+        None
     }
-    None
 }
 
 // All receipts in row order, while there is room: how many are closed, and what they release.
@@ -140,14 +140,15 @@ fn escrow_turn(edition: Edition, escrows: &[u64], number: EscrowNumber, time: u6
     let state = numbered::escrow(edition, escrows, number, ESCROW_STATE);
     let deadline = numbered::escrow(edition, escrows, number, ESCROW_DEADLINE);
     if sweeping::is_due(state, IS_OPEN, deadline, time) {
-        let amount = numbered::escrow(edition, escrows, number, ESCROW_AMOUNT);
-        return Some(amount);
+        Some(numbered::escrow(edition, escrows, number, ESCROW_AMOUNT))
+    } else {
+        None
     }
-    None
 }
 
 // All escrows in row order, while there is room: what expires. An escrow that the receipts release is not stale, so it is not due before
-// them nor after.
+// them nor after. The loop is that over receipts without marks; one for both would take the turn as a closure that holds the marks, and
+// could say what a row adds only by the closure's contract.
 fn escrow_turns(edition: Edition, header: &[u64], escrows: &[u64], time: u64, limit: u64) -> u64
     requires { Expires edition header.now escrows.now time }
     ensures { (K : Ledger) (S : Sweep) (released : ℕ) → let L = any K of_edition edition seeing_header header seeing_escrows escrows in Receipted L.entry time limit released S → Ended L.entry released result (loop (get_or header.now Limits.ESCROWS 0) (sweep_escrow time) S).tables }

@@ -1,28 +1,23 @@
 -- One row: what the reader's tests of its words say of the definitions' tests. The amount of a row that pays is right just if it is not 0 and not
 -- more than the most; a time counts from the day before on; times are right just if all of them together, bit by bit, are a time.
-use mathlib.Core.Path.{◌≡◌, refl, sym}
+use mathlib.Core.Path.{◌≡◌, refl}
 use mathlib.Core.Bool.{Bool, true, false, not, cond, ◌&&◌, ◌||◌}
 use Prim.Native.Nat.{ℕ, ◌+◌, ◌-◌, ◌<◌}
 use native.Mathlib.Omega.{arith}
 use lib.Dec.{eqb, ltb, leb}
 use lib.Bits.{bit_or, or_lt, or_add_and, and_le_l, and_le_r}
 use borrow.Author.Tests.{eqb-false, ltb-false, leb-true, ne_eqb, le-ltb, le-leb, not-true}
+use Rattle.std.specs.Cmp.{both_ways}
 use Rattle.rules.specs.Limits.{DAY_MS, MAX_AMOUNT_MICRO, LAST_TIME_MS}
 use Rattle.rules.specs.Sound.{between, time}
 use Rattle.rules.proofs.Bools.{and_intro, and_fst, and_snd, or_none_fst, or_none_snd}
-
--- two tests, each of which holds where the other does
-agree : (a b : Bool) → (a ≡ true → b ≡ true) → (b ≡ true → a ≡ true) → a ≡ b
-agree true b f g = sym (f refl)
-agree false true f g = g refl
-agree false false f g = refl
 
 -- the reader's test: what a row pays is 0 or too much. Of a row that does not pay, `shown` is another number, and the sum 0.
 abbrev pub fails : ℕ → ℕ → Bool
 fails shown sum = eqb shown 0 || ltb MAX_AMOUNT_MICRO sum
 
 within_is : (a : ℕ) → between 1 MAX_AMOUNT_MICRO a ≡ not (fails a a)
-within_is a = agree (between 1 MAX_AMOUNT_MICRO a) (not (fails a a)) there back
+within_is a = both_ways (between 1 MAX_AMOUNT_MICRO a) (not (fails a a)) there back
   where
     there : between 1 MAX_AMOUNT_MICRO a ≡ true → not (fails a a) ≡ true
     there t =
@@ -53,12 +48,12 @@ part_is true false false false amount = refl
 
 pub recent_is : (clock settled : ℕ) → leb (clock - DAY_MS) settled ≡ leb clock (settled + DAY_MS)
 recent_is clock settled =
-    agree (leb (clock - DAY_MS) settled) (leb clock (settled + DAY_MS))
+    both_ways (leb (clock - DAY_MS) settled) (leb clock (settled + DAY_MS))
     (λ t. le-leb clock (settled + DAY_MS) (omega (arith, leb-true (clock - DAY_MS) settled t)))
     (λ t. le-leb (clock - DAY_MS) settled (omega (arith, leb-true clock (settled + DAY_MS) t)))
 
 pub times_are : (a b : ℕ) → time (bit_or a b) ≡ (time a && time b)
-times_are a b = agree (time (bit_or a b)) (time a && time b) there back
+times_are a b = both_ways (time (bit_or a b)) (time a && time b) there back
   where
     there : time (bit_or a b) ≡ true → time a && time b ≡ true
     there t =

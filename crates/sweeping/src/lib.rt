@@ -48,9 +48,9 @@ fn close_due_receipt(
         moves::accept_receipt(
             edition, header, wallets, escrows, receipts, number, time, NOBODY,
         );
-        return;
+    } else {
+        moves::close_receipt(receipts, number, LAPSED, time, NOBODY);
     }
-    moves::close_receipt(receipts, number, LAPSED, time, NOBODY);
 }
 
 // One receipt of a sweep that may still close a row: whether it was due.

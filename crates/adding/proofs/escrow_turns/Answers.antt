@@ -2,27 +2,27 @@
 use mathlib.Core.Path.{sym, ◌∙◌}
 use native.Mathlib.Omega.{arith}
 use Rattle.adding.proofs.Counted.{counted_some, counted_none}
-use Rattle.adding.proofs.Escrows.{start, can_turn, amount_small, next, ended, full}
+use Rattle.adding.proofs.Escrows.{start, amount_small, next, ended, full}
 use Rattle.adding.proofs.escrow_turns.Goals as goal
 use Rattle.adding.proofs.escrow_turns.Goals.{in-Some, in_default}
 
 pub loop-row-init : goal.loop-row-init
 loop-row-init c = start _ _ _ _ _
 
-pub escrow_turn-requires : goal.escrow_turn-requires
-escrow_turn-requires c = can_turn _ _ _ _ c.requires _ c.loop-row-test.true
-
 pub overflow_add-amount : goal.overflow_add-amount
 overflow_add-amount c =
-    omega (arith, c.requires.sweeps.sweeping.small.escrows,
-    amount_small _ _ _ _ c.requires _ _ _ _ c.loop-row.invariant _ c.loop-row-test.true (sym c.in-Some.is ∙ c.escrow_turn.ensures))
+    omega (
+      arith,
+      c.requires.sweeps.sweeping.small.escrows,
+      amount_small _ _ _ _ c.requires _ _ _ _ c.loop-row.invariant _ c.loop-row-test.true (sym c.in-Some.is ∙ c.escrow_turn.ensures),
+    )
 
 pub loop-row-preserved : goal.loop-row-preserved
 loop-row-preserved c =
     next _ _ _ _ c.requires _ _ _ _ c.loop-row.invariant _ c.loop-row-test.true c.escrow_turn.ensures _ _ c.if-limit-rows.false
     (elim c.match-escrow_turn.branch [
-      in-Some w ↦ counted_some _ _ _ _ _ _ w.in-Some.is w.rows-is w.amount-is
-    | in_default w ↦ counted_none _ _ _ _ _ w.in_default.not-Some w.rows-is w.amount-is
+      | in-Some w ↦ counted_some _ _ _ _ _ _ w.in-Some.is w.rows-is w.amount-is
+      | in_default w ↦ counted_none _ _ _ _ _ w.in_default.not-Some w.rows-is w.amount-is
     ])
 
 pub returns-after-loop-row : goal.returns-after-loop-row

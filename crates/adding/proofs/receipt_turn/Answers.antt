@@ -4,8 +4,8 @@ use Rattle.adding.proofs.receipt_turn.Goals as goal
 
 pub returns-then-is_due : goal.returns-then-is_due
 returns-then-is_due c =
-    turn_closed _ _ _ _ _ _ _ _ _ c.receipt-state.ensures c.receipt-deadline.ensures c.is_due.ensures _ _ c.if-is_due.true c.auto_accepted-amount.ensures.0 c.auto_accepted-amount.ensures.1
+    turn_closed _ _ _ _ _ _ _ _ _ c.receipt-state.ensures c.receipt-deadline.ensures c.is_due.ensures _ _ c.if-is_due.true c.auto_accepted.ensures.0 c.auto_accepted.ensures.1
 
-pub returns : goal.returns
-returns c =
+pub returns-else-is_due : goal.returns-else-is_due
+returns-else-is_due c =
     turn_passed _ _ _ _ _ _ _ _ _ c.receipt-state.ensures c.receipt-deadline.ensures c.is_due.ensures c.if-is_due.false
