@@ -4,20 +4,46 @@
 
 ghost use Rattle.std.specs.Prelude.{◌≡◌, [], ◌∷◌, ◌++◌, ℕ, ◌+◌, ◌≤◌, ◌<◌, get_or};
 ghost use Rattle.rules.specs.Limits;
+ghost use Rattle.grid.specs.Named.{number_of, named_as};
 ghost use Rattle.rules.specs.Report.{cell, raised, grid_row, sums, first_past};
 
-use rules::limits::{
-    ANSWERS, EXPIRED_SUM, FIGURES, GRANTED_SUM, GRID_ROWS, LAST_FIGURE, LAST_OPERATION, NAMED_CELL,
-    NAMED_EXPIRED, NAMED_GRANTED, NAMED_REFUNDED, NAMED_RELEASED, NAMED_TRANSFERRED, OLD_DISPUTE,
-    REFUNDED_SUM, RELEASED_SUM, TRANSFERRED_SUM,
-};
+use rules::limits::{ANSWERS, FIGURES, GRID_ROWS, LAST_FIGURE, LAST_OPERATION, OLD_DISPUTE};
+
+// What a report names where it stops: the figure that would pass, or the cell.
+#[derive(Clone, Copy, PartialEq, Eq, Debug)]
+pub enum Named {
+    Granted = 1,
+    Transferred = 2,
+    Released = 3,
+    Refunded = 4,
+    Expired = 5,
+    Cell = 6,
+}
+
+impl Named {
+    // The paper's number.
+    pub fn number(self) -> u64
+        ensures { result ≡ number_of self }
+    {
+        self as u64
+    }
+}
+
+// The five figures, in their order.
+const SUMS: [Named; FIGURES] = [
+    Named::Granted,
+    Named::Transferred,
+    Named::Released,
+    Named::Refunded,
+    Named::Expired,
+];
 
 // The row of an operation byte: its own, or row 0 where it is no operation. Operation 8 is none today.
 pub fn row_of(op: u8) -> usize
     ensures { result ≡ grid_row op }
 {
     if (op <= LAST_OPERATION) & (op != OLD_DISPUTE) {
-        op as usize
+        usize::from(op)
     } else {
         0
     }
@@ -45,26 +71,19 @@ pub fn raise(
     next
 }
 
-// The first figure that would pass 2^64 - 1 with what is added, and behind the figures the cell with one more; 0 if none would.
-pub fn passing(figures: [u64; FIGURES], adds: [u64; FIGURES], count: u64) -> u64
-    ensures { result ≡ first_past 1 (sums figures adds ++ ((count + 1) ∷ [])) }
+// The first figure that would pass 2^64 - 1 with what is added, or else the cell with one more.
+pub fn passing(figures: [u64; FIGURES], adds: [u64; FIGURES], count: u64) -> Option<Named>
+    ensures { named_as result ≡ first_past 1 (sums figures adds ++ ((count + 1) ∷ [])) }
 {
-    let granted = payments::sums::exceeds(figures[GRANTED_SUM], adds[GRANTED_SUM], LAST_FIGURE);
-    let transferred = payments::sums::exceeds(
-        figures[TRANSFERRED_SUM],
-        adds[TRANSFERRED_SUM],
-        LAST_FIGURE,
-    );
-    let released = payments::sums::exceeds(figures[RELEASED_SUM], adds[RELEASED_SUM], LAST_FIGURE);
-    let refunded = payments::sums::exceeds(figures[REFUNDED_SUM], adds[REFUNDED_SUM], LAST_FIGURE);
-    let expired = payments::sums::exceeds(figures[EXPIRED_SUM], adds[EXPIRED_SUM], LAST_FIGURE);
-    let full = payments::sums::exceeds(count, 1, LAST_FIGURE);
-    let p6 = rows::choose(full, NAMED_CELL, 0);
-    let p5 = rows::choose(expired, NAMED_EXPIRED, p6);
-    let p4 = rows::choose(refunded, NAMED_REFUNDED, p5);
-    let p3 = rows::choose(released, NAMED_RELEASED, p4);
-    let p2 = rows::choose(transferred, NAMED_TRANSFERRED, p3);
-    rows::choose(granted, NAMED_GRANTED, p2)
+    for (k, named) in SUMS.iter().enumerate() {
+        if payments::sums::exceeds(figures[k], adds[k], LAST_FIGURE) {
+            return Some(*named);
+        }
+    }
+    if payments::sums::exceeds(count, 1, LAST_FIGURE) {
+        return Some(Named::Cell);
+    }
+    None
 }
 
 // The figures with what is added.
@@ -72,11 +91,9 @@ pub fn summed(figures: [u64; FIGURES], adds: [u64; FIGURES]) -> [u64; FIGURES]
     requires { (k : ℕ) → k < Limits.FIGURES → get_or figures k 0 + get_or adds k 0 ≤ Limits.LAST_FIGURE }
     ensures { result ≡ sums figures adds }
 {
-    [
-        figures[GRANTED_SUM] + adds[GRANTED_SUM],
-        figures[TRANSFERRED_SUM] + adds[TRANSFERRED_SUM],
-        figures[RELEASED_SUM] + adds[RELEASED_SUM],
-        figures[REFUNDED_SUM] + adds[REFUNDED_SUM],
-        figures[EXPIRED_SUM] + adds[EXPIRED_SUM],
-    ]
+    let mut sums = figures;
+    for k in 0..FIGURES {
+        sums[k] += adds[k];
+    }
+    sums
 }

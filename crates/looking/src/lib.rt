@@ -5,14 +5,12 @@
 ghost use Rattle.std.specs.Prelude.{◌≡◌};
 ghost use Rattle.rules.specs.Ledger.{Sized};
 ghost use Rattle.rules.specs.Lookup.{escrow_place, escrow_part, receipt_place, receipt_part, wallet_state};
-ghost use Rattle.rules.specs.Wallets.{standing_of};
 ghost use Rattle.rows.specs.Part.{placed};
 
 use rules::limits::{
-    ESCROWS, MAX_ESCROWS, MAX_RECEIPTS, MAX_WALLETS, RECEIPT_LEN, RECEIPTS, WALLET_CLOSED,
-    WALLET_LEN, WALLET_LIVE, WALLET_MISSING, WALLETS,
+    ESCROWS, MAX_ESCROWS, MAX_RECEIPTS, MAX_WALLETS, RECEIPT_LEN, RECEIPTS, WALLET_LEN, WALLETS,
 };
-use rules::{Edition, EscrowNumber, ReceiptNumber, Standing, WalletState};
+use rules::{Edition, EscrowNumber, ReceiptNumber, WalletState};
 
 // Where an escrow's row starts in the table, in words; the table's length where it is not written.
 pub fn escrow_place(edition: Edition, header: &[u64], escrows: &[u64], n: EscrowNumber) -> usize
@@ -92,24 +90,4 @@ pub fn wallet_row(edition: Edition, header: &[u64], wallets: &[u64], id: u64) ->
     // `as`, since std has no `From` between u64 and usize; both have 64 bits.
     let n = rows::at(header, WALLETS) as usize;
     rows::numbered::find_wallet(wallets, n, id)
-}
-
-// The same in numbers: an enum does not cross `extern "C"`.
-pub fn standing(state: WalletState) -> Standing
-    ensures { result ≡ standing_of state }
-{
-    match state {
-        WalletState::Missing => Standing {
-            state: WALLET_MISSING,
-            number: 0,
-        },
-        WalletState::Live(wallet) => Standing {
-            state: WALLET_LIVE,
-            number: wallet.0,
-        },
-        WalletState::Closed(wallet) => Standing {
-            state: WALLET_CLOSED,
-            number: wallet.0,
-        },
-    }
 }

@@ -3,17 +3,11 @@
 use Rattle.rules.specs.Replay.{Gone, gone}
 use Rattle.rules.specs.Results.{Sole}
 use Rattle.rules.specs.declared.Found.{Found}
-use Rattle.rules.specs.declared.Verdict.{Verdict}
 use Rattle.rules.proofs.Sole.{one}
 use Rattle.ledger.proofs.Surface.{five}
 use Rattle.replay.proofs.replay.Kinds as replay_kinds
 use Rattle.replay.proofs.replay.Reads as replay_reads
-use Rattle.replay.proofs.verdict.Kinds as verdict_kinds
-use Rattle.replay.proofs.verdict.Reads as verdict_reads
 
 -- what is found, and the five tables as they are left
 pub sole_replay : Sole replay_kinds.ps replay_kinds.r replay_reads.Learnt (Gone Found) (λ κs x e. gone x (five e))
 sole_replay κs a x y v w p q = one p q
-
-pub sole_verdict : Sole verdict_kinds.ps verdict_kinds.r verdict_reads.Learnt Verdict (λ κs x e. x)
-sole_verdict κs a x y v w p q = one p q

@@ -1,5 +1,5 @@
 -- THE DEMANDS OF THE CODE WITH REPLAYS. A call of `ledger`, `record` or `rules` as that surface shows it, or a replay, by its own contract; and so the
--- demands of every call and of every run, and that what a run recorded agrees. `verdict`, which only tells in numbers what was found, is in `shows`.
+-- demands of every call and of every run, and that what a run recorded agrees. What was found is shown in numbers, as the host is told it.
 use mathlib.Core.Path.{refl, ap}
 use Rattle.rules.specs.Ledger.{first_edition}
 use Rattle.rules.specs.Replay.{verdict_of, told}

@@ -8,22 +8,19 @@ ghost use Rattle.rules.specs.Ledger.{Sized, first_edition};
 ghost use Rattle.rules.specs.Moments.{tables, lent};
 ghost use Rattle.rules.specs.Record.{le_at};
 ghost use Rattle.rules.specs.Recording.{cut_short};
-ghost use Rattle.rules.specs.Replay.{gone, answer, ended, replay_on, replay, verdict_of};
+ghost use Rattle.rules.specs.Replay.{gone, answer, ended, replay_on, replay};
 ghost use Rattle.rules.specs.Sound.{Ready};
 ghost use Rattle.rules.specs.Submit.{submit};
 
-use rules::limits::{
-    ALL_AGREE, ANSWER_AT, BAD_TABLE, CUT_SHORT, DISAGREES, ENTRY_BYTES, NOT_REPLAYED, RECORD_BYTES,
-    WORD_AT,
-};
-use rules::{Answer, Edition, FIRST, Found, Verdict};
+use rules::limits::{ANSWER_AT, ENTRY_BYTES, RECORD_BYTES, WORD_AT};
+use rules::{Answer, Edition, FIRST, Found};
 
 // The recorded answer of the entry that starts at a place.
 fn recorded_at(recording: &[u8], at: usize) -> Answer
     requires { at + Limits.ENTRY_BYTES ≤ length recording.now }
     ensures { result ≡ answer (get_or recording.now (at + Limits.ANSWER_AT) 0) (le_at 8 recording.now (at + Limits.WORD_AT)) }
 {
-    let number = recording[at + ANSWER_AT] as u64;
+    let number = u64::from(recording[at + ANSWER_AT]);
     let word = word_bytes::word_at(recording, at + WORD_AT);
     Answer { number, word }
 }
@@ -53,14 +50,11 @@ fn replay_on(
     ensures { let L = lent edition header wallets escrows receipts journal in gone result L.exit ≡ replay_on submit L.entry recording.now }
 {
     let entries = recording.len() / ENTRY_BYTES;
-    let mut k: usize = 0;
-    while k < entries {
+    for k in 0..entries {
         let at = k * ENTRY_BYTES;
         let end = at + RECORD_BYTES;
-        // From here on k is the entry's own number: entries are reported counted from 1.
-        k += 1;
         let recorded = recorded_at(recording, at);
-        let answered = editions::step(
+        let answered = Answer::from(editions::step(
             edition,
             header,
             wallets,
@@ -68,12 +62,13 @@ fn replay_on(
             receipts,
             journal,
             &recording[at..end],
-        );
-        if !((recorded.number == answered.number) & (recorded.word == answered.word)) {
-            return Found::Disagrees(k as u64, recorded, answered);
+        ));
+        if recorded != answered {
+            // Entries are reported counted from 1.
+            return Found::Disagrees(k as u64 + 1, recorded, answered);
         }
     }
-    at_end(recording, k as u64)
+    at_end(recording, entries as u64)
 }
 
 // On the tables started afresh, whatever words they hold.
@@ -89,13 +84,12 @@ fn replay_afresh(
     requires { Sized edition }
     ensures { let L = lent edition header wallets escrows receipts journal in gone result L.exit ≡ replay submit L.entry recording.now }
 {
-    let number = editions::fresh(edition, header, wallets, escrows, receipts, journal);
-    if number != 0 {
-        return Found::WrongLength;
+    match editions::fresh(edition, header, wallets, escrows, receipts, journal) {
+        Ok(()) => replay_on(
+            edition, header, wallets, escrows, receipts, journal, recording,
+        ),
+        Err(_) => Found::WrongLength,
     }
-    replay_on(
-        edition, header, wallets, escrows, receipts, journal, recording,
-    )
 }
 
 // A replay of a recording on the lent tables, started afresh: which entry disagrees first, and both answers; or how many agree, and whether the
@@ -113,41 +107,4 @@ pub fn replay(
     replay_afresh(
         FIRST, header, wallets, escrows, receipts, journal, recording,
     )
-}
-
-// What a replay found, in numbers: an enum does not cross `extern "C"`.
-pub fn verdict(found: Found) -> Verdict
-    ensures { result ≡ verdict_of found }
-{
-    let none = Answer { number: 0, word: 0 };
-    match found {
-        Found::WrongLength => Verdict {
-            number: BAD_TABLE,
-            finding: NOT_REPLAYED,
-            replayed: 0,
-            recorded: none,
-            answered: none,
-        },
-        Found::AllAgree(n) => Verdict {
-            number: 0,
-            finding: ALL_AGREE,
-            replayed: n,
-            recorded: none,
-            answered: none,
-        },
-        Found::CutShort(n) => Verdict {
-            number: 0,
-            finding: CUT_SHORT,
-            replayed: n,
-            recorded: none,
-            answered: none,
-        },
-        Found::Disagrees(n, recorded, answered) => Verdict {
-            number: 0,
-            finding: DISAGREES,
-            replayed: n,
-            recorded,
-            answered,
-        },
-    }
 }

@@ -1,17 +1,24 @@
--- `grid::passing` meets its contract: each test is that of its figure, and the first that holds is chosen (Laws.antt).
-use Rattle.grid.proofs.Laws.{first_by}
+-- `grid::passing` meets its contract: the first figure that passes is named, and behind the figures the cell is asked (Laws.antt).
+use mathlib.Core.Path.{refl, sym, ◌∙◌}
+use native.Mathlib.Omega.{arith}
+use Rattle.grid.proofs.Laws.{names, one_more, names_the_cell, names_nothing}
 use Rattle.grid.proofs.passing.Goals as goal
+
+pub loop-k-init : goal.loop-k-init
+loop-k-init c = refl
+
+pub returns-then-exceeds : goal.returns-then-exceeds
+returns-then-exceeds c =
+    names c.args.figures c.args.adds c.args.count _ c.loop-k-test.true (sym c.exceeds.ensures ∙ c.if-exceeds.true) c.loop-k.invariant
+
+pub loop-k-preserved : goal.loop-k-preserved
+loop-k-preserved c =
+    one_more c.args.figures c.args.adds c.args.count _ c.loop-k-test.true (sym c.exceeds.ensures ∙ c.if-exceeds.false) c.loop-k.invariant
+
+pub returns-then-exceeds-2 : goal.returns-then-exceeds-2
+returns-then-exceeds-2 c =
+    names_the_cell c.args.figures c.args.adds c.args.count c.loop-k.k (omega arith) c.loop-k.invariant (sym c.exceeds-2.ensures ∙ c.if-exceeds-2.true)
 
 pub returns : goal.returns
 returns c =
-    first_by c.args.figures c.args.adds c.args.count
-    (record {
-      granted = c.exceeds-granted.ensures;
-      transferred = c.exceeds-transferred.ensures;
-      released = c.exceeds-released.ensures;
-      refunded = c.exceeds-refunded.ensures;
-      expired = c.exceeds-expired.ensures;
-      full = c.exceeds-full.ensures;
-    })
-    c.choose-p6.ensures c.choose-p5.ensures c.choose-p4.ensures
-    c.choose-p3.ensures c.choose-p2.ensures c.choose.ensures
+    names_nothing c.args.figures c.args.adds c.args.count c.loop-k.k (omega arith) c.loop-k.invariant (sym c.exceeds-2.ensures ∙ c.if-exceeds-2.false)

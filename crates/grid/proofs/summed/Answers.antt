@@ -1,19 +1,16 @@
--- `grid::summed` meets its contract: each sum fits, as the caller has shown.
-use lib.Dec.{lit<}
-use Rattle.grid.proofs.Laws.{fits_so}
+-- `grid::summed` meets its contract: that there are five figures is what the type says of them; each sum fits, as the caller has shown.
+use native.Mathlib.Omega.{arith}
+use Rattle.grid.proofs.Laws.{none_summed, next_fits, one_summed, all_summed}
 use Rattle.grid.proofs.summed.Goals as goal
 
-pub overflow_add-result : goal.overflow_add-result
-overflow_add-result c = fits_so _ (c.requires 0 (lit< tt))
+pub loop-k-init : goal.loop-k-init
+loop-k-init c = none_summed c.args.figures c.args.adds c.well_formed.0.1.0.1
 
-pub overflow_add-result-2 : goal.overflow_add-result-2
-overflow_add-result-2 c = fits_so _ (c.requires 1 (lit< tt))
+pub overflow_add-sums : goal.overflow_add-sums
+overflow_add-sums c = next_fits c.args.figures c.args.adds _ c.loop-k-test.true c.loop-k.invariant (c.requires _ c.loop-k-test.true)
 
-pub overflow_add-result-3 : goal.overflow_add-result-3
-overflow_add-result-3 c = fits_so _ (c.requires 2 (lit< tt))
+pub loop-k-preserved : goal.loop-k-preserved
+loop-k-preserved c = one_summed c.args.figures c.args.adds _ c.loop-k-test.true c.loop-k.invariant
 
-pub overflow_add-result-4 : goal.overflow_add-result-4
-overflow_add-result-4 c = fits_so _ (c.requires 3 (lit< tt))
-
-pub overflow_add-result-5 : goal.overflow_add-result-5
-overflow_add-result-5 c = fits_so _ (c.requires 4 (lit< tt))
+pub returns : goal.returns
+returns c = all_summed c.args.figures c.args.adds c.loop-k.k (omega arith) c.loop-k.invariant
