@@ -1,5 +1,6 @@
 // Small moves on the lent tables: a row added, credits moved, a row closed, an escrow ended, a receipt accepted. Each says what its
-// tables hold afterwards; what it may rely on stands in specs/Needs.antt.
+// tables hold afterwards; what it may rely on stands in specs/Needs.antt. The tables come one by one and not as one struct: a function is lent
+// only what it reads or changes, and so its contract says of all else that it stays.
 #![tactic(auto)]
 
 ghost use Rattle.std.specs.Prelude.{◌≡◌, cond, ◌+◌, ◌-◌, ◌*◌, ◌<◌, ◌≤◌, ◌^◌, length, get_or, set, eqb};
