@@ -4,22 +4,47 @@ use mathlib.Core.Path.{◌≡◌, refl, sym, ap, ap₂, ◌∙◌}
 use mathlib.Core.Logic.{◌≢◌}
 use mathlib.Core.List.{List, []}
 use mathlib.Core.Bool.{Bool, true, false, not, cond, ◌&&◌}
-use Prim.Native.Nat.{ℕ, ◌-◌}
+use Prim.Native.Nat.{ℕ, ◌-◌, ◌≤◌}
 use lib.ListN.{get_or, set}
 use lib.Dec.{eqb, ltb, leb}
 use borrow.Author.Tests.{eq-eqb, ne_eqb}
-use Rattle.std.specs.Prelude.{Some, None}
-use Rattle.rules.specs.Limits.{RECEIPT_LEN, IS_OPEN, PENDING, ESCROW_AMOUNT, ESCROW_DEADLINE, ESCROW_STATE, RECEIPT_LINK, ACCEPTANCE_DEADLINE, AUTO_ACCEPT, RECEIPT_STATE}
+use Rattle.std.specs.Prelude.{Option, Some, None}
+use native.Mathlib.Omega.{arith}
+use Rattle.rules.specs.Limits.{MAX_ESCROWS, RECEIPT_LEN, IS_OPEN, PENDING, ESCROW_AMOUNT, ESCROW_DEADLINE, ESCROW_STATE, RECEIPT_LINK, ACCEPTANCE_DEADLINE, AUTO_ACCEPT, RECEIPT_STATE}
 use Rattle.rules.specs.Table.{word}
 use Rattle.rules.specs.Ledger.{Ledger, ledger_of, set_edition, set_escrows}
 use Rattle.rules.specs.Refusals.{releasable}
 use Rattle.rules.specs.declared.Edition.{Edition}
+use Rattle.rules.specs.declared.EscrowNumber.{EscrowNumber}
+use Rattle.rows.specs.Numbered.{Names}
+use Rattle.moves.specs.Needs.{link_of}
+use Rattle.moves.proofs.Accepts.{some_link}
+use Rattle.adding.specs.Needs.{Links}
 use Rattle.rules.proofs.Bools.{and_intro, and_fst, and_snd, and_none_fst, and_none_snd}
 use Rattle.adding.specs.Turns.{linked, freed, frees_now, freed_now, marked_now, closes, closed_turn, closed_marks, expires, expired_turn}
 
 -- c says whether the escrow in row i is open and not stale
 abbrev Tested : Edition → List ℕ → Bool → ℕ → ℕ → Type 0
 Tested ed e c time i = (K : Ledger) → c ≡ releasable (set_escrows e (set_edition ed K)) time i
+
+-- the number of an escrow that a receipt links: it names the escrow, and has its place among the marks
+pub record Linked (r : List ℕ) (i number : ℕ) : Type 0 where
+  pub link_is : number ≡ word r RECEIPT_LEN i RECEIPT_LINK
+  pub link_ne : number ≢ 0
+  pub high : number ≤ MAX_ESCROWS
+  pub names : Names number
+
+pub linked_so : (ed : Edition) (r : List ℕ) (i : ℕ) (o : Option EscrowNumber) (l : EscrowNumber) → Links ed r i → o ≡ link_of r i → o ≡ Some l → Linked r i l.0
+linked_so ed r i o l a e f =
+    let says = some_link r i o e l f in
+    let low : 1 ≤ l.0 = omega (arith, says.link_ne) in
+    let high : l.0 ≤ MAX_ESCROWS = omega (arith, says.link_is, a.link) in
+    record {
+      link_is = says.link_is;
+      link_ne = says.link_ne;
+      high = high;
+      names = record { low = low; high = omega (arith, high) };
+    }
 
 -- a receipt that is accepted
 module _ (ed : Edition) (e r : List ℕ) (time i link : ℕ) (p : link ≡ word r RECEIPT_LEN i RECEIPT_LINK) where

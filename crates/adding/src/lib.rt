@@ -19,7 +19,7 @@ ghost use Rattle.adding.specs.Turns.{freed, freed_now, marked_now, closed_turn, 
 use rows::numbered;
 use rules::limits::{
     ACCEPTANCE_DEADLINE, ACCEPTS, AUTO_ACCEPT, ESCROW_AMOUNT, ESCROW_DEADLINE, ESCROW_STATE,
-    ESCROWS, FIGURES, IS_OPEN, MAX_ESCROWS, PENDING, RECEIPT_LINK, RECEIPT_STATE, RECEIPTS,
+    ESCROWS, FIGURES, IS_OPEN, MAX_ESCROWS, PENDING, RECEIPT_STATE, RECEIPTS,
 };
 use rules::operation::Operation;
 use rules::{Edition, EscrowNumber, ReceiptNumber, Submission};
@@ -42,10 +42,9 @@ fn accepted(
     requires { Names number.0 × Links edition receipts.now (number.0 - 1) }
     ensures { result ≡ freed edition escrows.now receipts.now time (number.0 - 1) }
 {
-    let link = EscrowNumber(numbered::receipt(receipts, number, RECEIPT_LINK));
-    if link.0 == 0 {
+    let Some(link) = moves::link(receipts, number) else {
         return 0;
-    }
+    };
     let amount = numbered::escrow(edition, escrows, link, ESCROW_AMOUNT);
     let releasable = moves::is_releasable(edition, escrows, link, time);
     rows::choose(releasable, amount, 0)
@@ -67,10 +66,9 @@ fn auto_accepted(
     if auto != 1 {
         return 0;
     }
-    let link = EscrowNumber(numbered::receipt(receipts, number, RECEIPT_LINK));
-    if link.0 == 0 {
+    let Some(link) = moves::link(receipts, number) else {
         return 0;
-    }
+    };
     let row = (link.0 - 1) as usize;
     if marks[row] {
         return 0;

@@ -1,11 +1,12 @@
 -- What a move may rely on, over the lent lists alone: counts within their tables, and credits that neither wrap nor fall below zero.
-use Rattle.std.specs.Prelude.{◌≡◌, ◌≢◌, List, [], true, ℕ, ◌+◌, ◌-◌, ◌*◌, ◌<◌, ◌≤◌, ◌^◌, length, get_or}
+use Rattle.std.specs.Prelude.{◌≡◌, ◌≢◌, List, [], Option, Some, None, true, cond, eqb, ℕ, ◌+◌, ◌-◌, ◌*◌, ◌<◌, ◌≤◌, ◌^◌, length, get_or}
 use Rattle.rules.specs.Limits.{HEADER_LEN, WALLET_LEN, RECEIPT_LEN, MAX_WALLETS, MAX_ESCROWS, MAX_RECEIPTS, WALLETS, ESCROWS, RECEIPTS, BALANCE, LOCKED}
 use Rattle.rules.specs.Limits.{FROM, TO, ESCROW_AMOUNT, RECEIPT_LINK}
 use Rattle.rules.specs.Table.{word, put}
 use Rattle.rules.specs.Ledger.{row_of, ledger_of}
 use Rattle.rules.specs.Refusals.{releasable}
 use Rattle.rules.specs.declared.Edition.{Edition}
+use Rattle.rules.specs.declared.EscrowNumber.{EscrowNumber}
 use Rattle.rows.specs.Numbered.{Names}
 
 -- the row of a wallet, of those that the header counts
@@ -51,6 +52,12 @@ pub record Ends (ed : Edition) (header wallets escrows : List ℕ) (i : ℕ) : T
       word wallets WALLET_LEN (row_in header wallets (word escrows ed.escrow i FROM)) BALANCE + word escrows ed.escrow i ESCROW_AMOUNT < 2 ^ 64
   pub paid :
       word wallets WALLET_LEN (row_in header wallets (word escrows ed.escrow i TO)) BALANCE + word escrows ed.escrow i ESCROW_AMOUNT < 2 ^ 64
+
+-- the escrow that the receipt in row i links, or none
+unfoldable pub link_of : List ℕ → ℕ → Option EscrowNumber
+link_of receipts i =
+    let n = word receipts RECEIPT_LEN i RECEIPT_LINK in
+    cond (eqb n 0) None (Some (record { 0 = n }))
 
 -- the receipt in row i can be accepted: an open escrow that it links can end
 pub record Accepts (ed : Edition) (header wallets escrows receipts : List ℕ) (now i : ℕ) : Type 0 where

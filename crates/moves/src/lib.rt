@@ -1,5 +1,6 @@
 // Small moves on the lent tables: a row added, credits moved, a row closed, an escrow ended, a receipt accepted. Each says what its
-// tables hold afterwards; what it may rely on stands in specs/Needs.antt.
+// tables hold afterwards; what it may rely on stands in specs/Needs.antt. The tables come one by one and not as one struct: a function is lent
+// only what it reads or changes, and so its contract says of all else that it stays.
 #![tactic(auto)]
 
 ghost use Rattle.std.specs.Prelude.{◌≡◌, cond, ◌+◌, ◌-◌, ◌*◌, ◌<◌, ◌≤◌, ◌^◌, length, get_or, set, eqb};
@@ -10,7 +11,7 @@ ghost use Rattle.rules.specs.Moments.{any, ◌of_edition◌, ◌with_header◌, 
 ghost use Rattle.rules.specs.Settle.{ensure_wallet, end_escrow, close_receipt, accept_row, done};
 ghost use Rattle.rules.specs.Refusals.{releasable};
 ghost use Rattle.rows.specs.Numbered.{Names};
-ghost use Rattle.moves.specs.Needs.{row_in, more, less, Counted, Moves, Ends, Accepts};
+ghost use Rattle.moves.specs.Needs.{row_in, more, less, link_of, Counted, Moves, Ends, Accepts};
 
 use rows::numbered;
 use rules::limits::{
@@ -181,6 +182,20 @@ pub fn is_releasable(edition: Edition, escrows: &[u64], number: EscrowNumber, ti
     (state == IS_OPEN) & (time <= deadline)
 }
 
+// The escrow that a receipt links, if any: its word is 0 where there is none.
+#[tactic(auto, unfolding(crate::specs::Needs::link_of))]
+pub fn link(receipts: &[u64], number: ReceiptNumber) -> Option<EscrowNumber>
+    requires { Names number.0 }
+    ensures { result ≡ link_of receipts.now (number.0 - 1) }
+{
+    let link = numbered::receipt(receipts, number, RECEIPT_LINK);
+    if link == 0 {
+        None
+    } else {
+        Some(EscrowNumber(link))
+    }
+}
+
 // A receipt is accepted. Its escrow is released if it is open and not stale, and is the word; if that is impossible, 29 is stored.
 pub fn accept_receipt(
     edition: Edition,
@@ -195,11 +210,11 @@ pub fn accept_receipt(
     requires { Names number.0 × Accepts edition header.now wallets.old escrows.old receipts.old time (number.0 - 1) }
     ensures { (K : Ledger) → let L = any K of_edition edition seeing_header header with_wallets wallets with_escrows escrows with_receipts receipts in done result L.exit ≡ accept_row time signer (number.0 - 1) L.entry }
 {
-    let link = EscrowNumber(numbered::receipt(receipts, number, RECEIPT_LINK));
+    let linked = link(receipts, number);
     close_receipt(receipts, number, ACCEPTED, time, signer);
-    if link.0 == 0 {
+    let Some(link) = linked else {
         return 0;
-    }
+    };
     if is_releasable(edition, escrows, link, time) {
         end_escrow(
             edition, header, wallets, escrows, link, RELEASED, time, signer,

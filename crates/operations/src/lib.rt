@@ -1,5 +1,6 @@
 // What each operation but the sweep does to the tables, over the small moves. Clock and journal are left to `settling`. What an operation
-// may rely on stands in specs/Needs.antt; it is what no refusal and a sound ledger leave.
+// may rely on stands in specs/Needs.antt; it is what no refusal and a sound ledger leave. Each answers the word of the definitions' `done`, which
+// is 0 where there is none to say, and is lent only the tables that it reads or changes.
 #![tactic(auto)]
 
 ghost use Rattle.std.specs.Prelude.{◌≡◌, ◌-◌};
