@@ -31,8 +31,7 @@ fn operation_refusal(ledger: Tables<'_>, s: Submission) -> Result<(), Refusal>
         receipts,
         journal,
     } = ledger;
-    let op = s.op;
-    match op {
+    match s.op {
         GRANT => payments::grant_refusal(header, wallets, journal, s),
         TRANSFER | OPEN => payments::paying_refusal(edition, header, wallets, escrows, journal, s),
         RELEASE | REFUND => holds::closing_refusal(edition, header, escrows, journal, s),
