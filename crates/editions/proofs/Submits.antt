@@ -9,7 +9,7 @@ use native.Mathlib.Omega.{arith}
 use lib.Dec.{eqb}
 use borrow.Author.Tests.{ne_eqb}
 use Rattle.rules.specs.Ledger.{Ledger, Outcome, outcome, lengths_right, Sized}
-use Rattle.rules.specs.Numbers.{number_of, numbered, word_of, read_as, decided_as}
+use Rattle.rules.specs.Numbers.{number_of, as_number, word_of, read_as, decided_as}
 use Rattle.rules.specs.Record.{well_formed, read_of, nothing}
 use Rattle.rules.specs.Sound.{sound, Ready}
 use Rattle.rules.specs.Refusals.{first, refusals_by, entry_refusals, envelope_refusals, operation_refusals}
@@ -72,29 +72,29 @@ module _ (L : Ledger) (b : List ℕ) where
     -- ---- what was decided
 
     module _ (d : Decided) (is : decided_as d ≡ decided L b) where
-      number_so : numbered d.outcome ≡ answer_of L (read_of b)
+      number_so : as_number d.outcome ≡ answer_of L (read_of b)
       number_so = ap (λ (x : Read). x.number) is
 
       submission_so : d.submission ≡ (read_of b).submission
       submission_so = ap (λ (x : Read). x.submission) is
 
       -- a refusal is handed on, and changes nothing
-      pub refused_so : {r : Refusal} {whole : Result ℕ Refusal} → d.outcome ≡ Err r → whole ≡ Err r → outcome (numbered whole) (word_of whole) L ≡ submit L b
+      pub refused_so : {r : Refusal} {whole : Result ℕ Refusal} → d.outcome ≡ Err r → whole ≡ Err r → outcome (as_number whole) (word_of whole) L ≡ submit L b
       refused_so {r} was e =
-          let n : number_of r ≡ answer_of L (read_of b) = sym (ap numbered was) ∙ number_so in
-          ap (λ (x : Result ℕ Refusal). outcome (numbered x) (word_of x) L) e
+          let n : number_of r ≡ answer_of L (read_of b) = sym (ap as_number was) ∙ number_so in
+          ap (λ (x : Result ℕ Refusal). outcome (as_number x) (word_of x) L) e
           ∙ ap (λ (k : ℕ). outcome k 0 L) n
           ∙ by_answer (λ (o : Outcome). outcome (answer_of L (read_of b)) 0 L ≡ o) L b (λ z. absurd (not_0 r (n ∙ z))) (λ ne. refl)
 
       -- and otherwise nothing stands against settling
-      pub settles_so : Sized L.edition → numbered d.outcome ≡ 0 → Settles L d.submission
+      pub settles_so : Sized L.edition → as_number d.outcome ≡ 0 → Settles L d.submission
       settles_so sized z =
           let y : answer_of L (read_of b) ≡ 0 = sym number_so ∙ z in
           let f : eqb (read_of b).number 3 ≡ false = ne_eqb (read_of b).number 3 (λ t. omega (arith, answered_3 t, y)) in
           subst (λ (s : Submission). Settles L s) (sym submission_so)
           (record { sized = sized; ready = ready; formed = read_formed b f; passed = sym (answered_later f) ∙ y })
 
-      pub settled_so : numbered d.outcome ≡ 0 → (word : ℕ) (K : Ledger) → done word K ≡ settle d.submission L → outcome 0 word K ≡ submit L b
+      pub settled_so : as_number d.outcome ≡ 0 → (word : ℕ) (K : Ledger) → done word K ≡ settle d.submission L → outcome 0 word K ≡ submit L b
       settled_so z word K e =
           ap (λ (x : Done). outcome 0 x.word x.after) (e ∙ ap (λ (s : Submission). settle s L) submission_so)
           ∙ sym (laid_down L b (number_is L b ∙ sym number_so ∙ z))

@@ -6,7 +6,7 @@
 ghost use Rattle.std.specs.Prelude.{◌≡◌};
 ghost use Rattle.rules.specs.Ledger.{Sized, outcome, lengths_right, fresh};
 ghost use Rattle.rules.specs.Moments.{tables, lent, ledger_in};
-ghost use Rattle.rules.specs.Numbers.{numbered, word_of, decided_as};
+ghost use Rattle.rules.specs.Numbers.{as_number, word_of, decided_as};
 ghost use Rattle.rules.specs.Sound.{Ready};
 ghost use Rattle.rules.specs.Submit.{decided, submit};
 
@@ -40,7 +40,7 @@ pub fn fresh(
     journal: &mut [u64],
 ) -> Result<(), Refusal>
     requires { Sized edition }
-    ensures { let L = lent edition header wallets escrows receipts journal in outcome (numbered result) 0 L.exit ≡ fresh L.entry }
+    ensures { let L = lent edition header wallets escrows receipts journal in outcome (as_number result) 0 L.exit ≡ fresh L.entry }
 {
     let ledger = Tables {
         edition,
@@ -88,7 +88,7 @@ pub fn step(
     bytes: &[u8],
 ) -> Result<u64, Refusal>
     requires { Sized edition × Ready (tables edition header wallets escrows receipts journal) }
-    ensures { let L = lent edition header wallets escrows receipts journal in outcome (numbered result) (word_of result) L.exit ≡ submit L.entry bytes.now }
+    ensures { let L = lent edition header wallets escrows receipts journal in outcome (as_number result) (word_of result) L.exit ≡ submit L.entry bytes.now }
 {
     let ledger = Tables {
         edition,
@@ -124,7 +124,7 @@ pub fn submit(
     bytes: &[u8],
 ) -> Result<u64, Refusal>
     requires { Sized edition }
-    ensures { let L = lent edition header wallets escrows receipts journal in outcome (numbered result) (word_of result) L.exit ≡ submit L.entry bytes.now }
+    ensures { let L = lent edition header wallets escrows receipts journal in outcome (as_number result) (word_of result) L.exit ≡ submit L.entry bytes.now }
 {
     let ledger = Tables {
         edition,

@@ -5,7 +5,7 @@ ghost use Rattle.std.specs.Prelude.{◌≡◌, ◌*◌, ◌≤◌, ◌<◌, get_
 ghost use Rattle.rules.specs.Limits;
 ghost use Rattle.rules.specs.Ledger.{Ledger};
 ghost use Rattle.rules.specs.Moments.{any, ◌seeing_header◌, ◌seeing_journal◌};
-ghost use Rattle.rules.specs.Numbers.{numbered};
+ghost use Rattle.rules.specs.Numbers.{as_number};
 ghost use Rattle.rules.specs.Refusals.{first, seen_in, envelope_refusals};
 
 use rules::Submission;
@@ -35,7 +35,7 @@ pub fn seen(journal: &[u64], n: usize, signer: u64, nonce: u64) -> bool
 // The first of checks 4 to 11 that holds.
 pub fn envelope_refusal(header: &[u64], journal: &[u64], s: Submission) -> Result<(), Refusal>
     requires { (Limits.ENTRIES < length header.now) × (get_or header.now Limits.ENTRIES 0 * Limits.JOURNAL_LEN ≤ length journal.now) × (1 ≤ s.op) × (s.op ≤ Limits.LAST_OPERATION) × (s.now ≤ Limits.LAST_TIME_MS) × (s.issued ≤ Limits.LAST_TIME_MS) }
-    ensures { (K : Ledger) → let L = any K seeing_header header seeing_journal journal in numbered result ≡ first (envelope_refusals L.entry s) }
+    ensures { (K : Ledger) → let L = any K seeing_header header seeing_journal journal in as_number result ≡ first (envelope_refusals L.entry s) }
 {
     // a sweep has no envelope
     let signed = s.op != SWEEP;

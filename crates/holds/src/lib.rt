@@ -6,7 +6,7 @@ ghost use Rattle.std.specs.Prelude.{◌≡◌, true, ◌⊎◌, ◌*◌, ◌^◌
 ghost use Rattle.rules.specs.Limits;
 ghost use Rattle.rules.specs.Ledger.{Ledger, Sized, written};
 ghost use Rattle.rules.specs.Moments.{any, ledger_in, ◌of_edition◌, ◌seeing_header◌, ◌seeing_escrows◌, ◌seeing_receipts◌, ◌seeing_journal◌};
-ghost use Rattle.rules.specs.Numbers.{numbered};
+ghost use Rattle.rules.specs.Numbers.{as_number};
 ghost use Rattle.rules.specs.Refusals.{first, operation_refusals};
 ghost use Rattle.rows.specs.Numbered.{Names};
 ghost use Rattle.holds.specs.Terms.{link_refusals, term_refusals};
@@ -38,7 +38,7 @@ pub fn closing_refusal(
     s: Submission,
 ) -> Result<(), Refusal>
     requires { (Limits.ENTRIES < length header.now) × (get_or header.now Limits.ESCROWS 0 ≤ Limits.MAX_ESCROWS) × ((s.op ≡ Limits.RELEASE) ⊎ (s.op ≡ Limits.REFUND)) × Sized edition }
-    ensures { (K : Ledger) → let L = any K of_edition edition seeing_header header seeing_escrows escrows seeing_journal journal in numbered result ≡ first (operation_refusals L.entry s) }
+    ensures { (K : Ledger) → let L = any K of_edition edition seeing_header header seeing_escrows escrows seeing_journal journal in as_number result ≡ first (operation_refusals L.entry s) }
 {
     if !written(header[ESCROWS], s.target) {
         return Err(Refusal::EscrowNotFound);
@@ -65,7 +65,7 @@ fn link_refusal(
     s: Submission,
 ) -> Result<(), Refusal>
     requires { (Limits.ESCROWS < length header.now) × (get_or header.now Limits.ESCROWS 0 ≤ Limits.MAX_ESCROWS) × Sized edition }
-    ensures { (K : Ledger) → let L = any K of_edition edition seeing_header header seeing_escrows escrows in numbered result ≡ first (link_refusals L.entry s) }
+    ensures { (K : Ledger) → let L = any K of_edition edition seeing_header header seeing_escrows escrows in as_number result ≡ first (link_refusals L.entry s) }
 {
     if !written(header[ESCROWS], s.link) {
         return Err(Refusal::EscrowNotFound);
@@ -95,7 +95,7 @@ fn terms_refusal(
     s: Submission,
 ) -> Result<(), Refusal>
     requires { (Limits.ENTRIES < length header.now) × (get_or header.now Limits.ESCROWS 0 ≤ Limits.MAX_ESCROWS) × (s.issued ≤ Limits.LAST_TIME_MS) × Sized edition }
-    ensures { (K : Ledger) → let L = any K of_edition edition seeing_header header seeing_escrows escrows seeing_receipts receipts seeing_journal journal in numbered result ≡ first (term_refusals L.entry s) }
+    ensures { (K : Ledger) → let L = any K of_edition edition seeing_header header seeing_escrows escrows seeing_receipts receipts seeing_journal journal in as_number result ≡ first (term_refusals L.entry s) }
 {
     let window_too_short = s.until < s.issued + MIN_ACCEPTANCE_MS;
     let window_too_long = s.issued + MAX_ACCEPTANCE_MS < s.until;
@@ -119,7 +119,7 @@ fn terms_refusal(
 // A claim: checks 15, 43, 22 to 27, 29 to 31, 39, 40, in this order. A closed party is told before a missing one.
 pub fn claim_refusal(ledger: Tables<'_>, s: Submission) -> Result<(), Refusal>
     requires { (Limits.ENTRIES < length ledger.header.now) × (get_or ledger.header.now Limits.ESCROWS 0 ≤ Limits.MAX_ESCROWS) × (get_or ledger.header.now Limits.WALLETS 0 * Limits.WALLET_LEN ≤ length ledger.wallets.now) × (s.issued ≤ Limits.LAST_TIME_MS) × (s.op ≡ Limits.CLAIM) × Sized ledger.edition }
-    ensures { numbered result ≡ first (operation_refusals (ledger_in ledger.entry) s) }
+    ensures { as_number result ≡ first (operation_refusals (ledger_in ledger.entry) s) }
 {
     if (s.target == 0) | (s.target == s.signer) {
         return Err(Refusal::RecipientInvalid);
@@ -153,7 +153,7 @@ pub fn reply_refusal(
     s: Submission,
 ) -> Result<(), Refusal>
     requires { (Limits.ENTRIES < length header.now) × (get_or header.now Limits.RECEIPTS 0 ≤ Limits.MAX_RECEIPTS) × (s.op ≡ Limits.REPLY) }
-    ensures { (K : Ledger) → let L = any K seeing_header header seeing_receipts receipts seeing_journal journal in numbered result ≡ first (operation_refusals L.entry s) }
+    ensures { (K : Ledger) → let L = any K seeing_header header seeing_receipts receipts seeing_journal journal in as_number result ≡ first (operation_refusals L.entry s) }
 {
     if !written(header[RECEIPTS], s.target) {
         return Err(Refusal::ReceiptNotFound);

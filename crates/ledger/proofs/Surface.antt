@@ -4,7 +4,7 @@ use mathlib.Core.Path.{refl, ap}
 use lib.Dec.{lit<, lit≤}
 use Rattle.rules.specs.Ledger.{Ledger, first_edition}
 use Rattle.rules.specs.Moments.{Slice, View, tables}
-use Rattle.rules.specs.Numbers.{numbered, word_of, read_as}
+use Rattle.rules.specs.Numbers.{as_number, word_of, read_as}
 use Rattle.rules.specs.Record.{read_of}
 use Rattle.rules.specs.Results.{Ran, exits, Pair, pair, Result, by_fresh, by_submit, by_lookup, wallet_standing, place_of_escrow, escrow_row, place_of_receipt, receipt_row, by_read, by_write, by_status, Meets}
 use Rattle.rules.specs.Runs.{Surface, CallsAreListed, CallsDecide, RunsAddUp, RunsRefuseRetries, RetriesChangeNothing}
@@ -61,12 +61,12 @@ pub data Did : Type 0 where
 -- what it was lent, left, asked and answered: its parameters at entry and at exit, in the order of the source. An answer is shown in the paper's numbers,
 -- which decide it (`rules.proofs.Numbers`), a round trip by its second half, and what was found of a wallet in numbers.
 abbrev pub shows : Did → Result
-shows (did_fresh x) = by_fresh (five x.args) (five (exits x)) (numbered x.answer)
-shows (did_submit x) = by_submit (five x.args) (five (exits x)) x.args.1.1.1.1.1.0.now (numbered x.answer) (word_of x.answer)
+shows (did_fresh x) = by_fresh (five x.args) (five (exits x)) (as_number x.answer)
+shows (did_submit x) = by_submit (five x.args) (five (exits x)) x.args.1.1.1.1.1.0.now (as_number x.answer) (word_of x.answer)
 shows (did_read x) = by_read x.args.0.now (read_as x.answer)
-shows (did_write x) = by_write x.args.0 x.args.1.0.now (exits x).1.0.now (numbered x.answer)
+shows (did_write x) = by_write x.args.0 x.args.1.0.now (exits x).1.0.now (as_number x.answer)
 shows (did_write_read x) = by_read (exits x).1.0.now (read_as x.answer)
-shows (did_read_write x) = by_write (read_of x.args.0.now).submission x.args.1.0.now (exits x).1.0.now (numbered x.answer)
+shows (did_read_write x) = by_write (read_of x.args.0.now).submission x.args.1.0.now (exits x).1.0.now (as_number x.answer)
 shows (did_status x) = by_status x.args.0 x.answer
 shows (did_wallet x) = by_lookup (two x.args) (two (exits x)) (wallet_standing x.args.1.1.0 (standing_of x.answer))
 shows (did_escrow_place x) = by_lookup (two x.args) (two (exits x)) (place_of_escrow x.args.1.1.0.0 x.answer)

@@ -5,7 +5,7 @@
 ghost use Rattle.std.specs.Prelude.{◌≡◌};
 ghost use Rattle.rules.specs.Ledger.{first_edition, outcome, fresh};
 ghost use Rattle.rules.specs.Moments.{lent};
-ghost use Rattle.rules.specs.Numbers.{numbered, word_of};
+ghost use Rattle.rules.specs.Numbers.{as_number, word_of};
 ghost use Rattle.rules.specs.Submit.{submit};
 
 use rules::FIRST;
@@ -21,7 +21,7 @@ pub fn fresh(
     receipts: &mut [u64],
     journal: &mut [u64],
 ) -> Result<(), Refusal>
-    ensures { let L = lent first_edition header wallets escrows receipts journal in outcome (numbered result) 0 L.exit ≡ fresh L.entry }
+    ensures { let L = lent first_edition header wallets escrows receipts journal in outcome (as_number result) 0 L.exit ≡ fresh L.entry }
 {
     editions::fresh(FIRST, header, wallets, escrows, receipts, journal)
 }
@@ -36,7 +36,7 @@ pub fn submit(
     journal: &mut [u64],
     bytes: &[u8],
 ) -> Result<u64, Refusal>
-    ensures { let L = lent first_edition header wallets escrows receipts journal in outcome (numbered result) (word_of result) L.exit ≡ submit L.entry bytes.now }
+    ensures { let L = lent first_edition header wallets escrows receipts journal in outcome (as_number result) (word_of result) L.exit ≡ submit L.entry bytes.now }
 {
     editions::submit(FIRST, header, wallets, escrows, receipts, journal, bytes)
 }

@@ -5,7 +5,7 @@ ghost use Rattle.std.specs.Prelude.{◌≡◌, ◌⊎◌, ◌+◌, ◌*◌, ◌�
 ghost use Rattle.rules.specs.Limits;
 ghost use Rattle.rules.specs.Ledger.{Ledger, Sized, row_of};
 ghost use Rattle.rules.specs.Moments.{any, ◌of_edition◌, ◌seeing_header◌, ◌seeing_wallets◌, ◌seeing_escrows◌, ◌seeing_journal◌};
-ghost use Rattle.rules.specs.Numbers.{numbered};
+ghost use Rattle.rules.specs.Numbers.{as_number};
 ghost use Rattle.rules.specs.Refusals.{first, operation_refusals};
 ghost use Rattle.payments.specs.Entries.{Entries};
 ghost use Rattle.payments.specs.Sending.{sending_refusals};
@@ -27,7 +27,7 @@ pub fn grant_refusal(
     s: Submission,
 ) -> Result<(), Refusal>
     requires { (Limits.ENTRIES < length header.now) × (get_or header.now Limits.WALLETS 0 * Limits.WALLET_LEN ≤ length wallets.now) × (s.op ≡ Limits.GRANT) }
-    ensures { (K : Ledger) → let L = any K seeing_header header seeing_wallets wallets seeing_journal journal in numbered result ≡ first (operation_refusals L.entry s) }
+    ensures { (K : Ledger) → let L = any K seeing_header header seeing_wallets wallets seeing_journal journal in as_number result ≡ first (operation_refusals L.entry s) }
 {
     let granted = header[GRANTED];
     let count = header[WALLETS] as usize;
@@ -65,7 +65,7 @@ fn sending_refusal(
     sender: WalletNumber,
 ) -> Result<(), Refusal>
     requires { (Limits.ENTRIES < length header.now) × (get_or header.now Limits.WALLETS 0 ≤ Limits.MAX_WALLETS) × (get_or header.now Limits.WALLETS 0 * Limits.WALLET_LEN ≤ length wallets.now) × Entries journal.now (get_or header.now Limits.ENTRIES 0) × (s.now ≤ Limits.LAST_TIME_MS) × Sized edition × (sender.0 ≡ row_of wallets.now (get_or header.now Limits.WALLETS 0) s.signer + 1) }
-    ensures { (K : Ledger) → let L = any K of_edition edition seeing_header header seeing_wallets wallets seeing_escrows escrows seeing_journal journal in numbered result ≡ first (sending_refusals L.entry s) }
+    ensures { (K : Ledger) → let L = any K of_edition edition seeing_header header seeing_wallets wallets seeing_escrows escrows seeing_journal journal in as_number result ≡ first (sending_refusals L.entry s) }
 {
     let count = header[WALLETS] as usize;
     let held = header[ESCROWS] as usize;
@@ -111,7 +111,7 @@ pub fn paying_refusal(
     s: Submission,
 ) -> Result<(), Refusal>
     requires { (Limits.ENTRIES < length header.now) × (get_or header.now Limits.WALLETS 0 ≤ Limits.MAX_WALLETS) × (get_or header.now Limits.WALLETS 0 * Limits.WALLET_LEN ≤ length wallets.now) × Entries journal.now (get_or header.now Limits.ENTRIES 0) × (s.now ≤ Limits.LAST_TIME_MS) × ((s.op ≡ Limits.TRANSFER) ⊎ (s.op ≡ Limits.OPEN)) × Sized edition }
-    ensures { (K : Ledger) → let L = any K of_edition edition seeing_header header seeing_wallets wallets seeing_escrows escrows seeing_journal journal in numbered result ≡ first (operation_refusals L.entry s) }
+    ensures { (K : Ledger) → let L = any K of_edition edition seeing_header header seeing_wallets wallets seeing_escrows escrows seeing_journal journal in as_number result ≡ first (operation_refusals L.entry s) }
 {
     let count = header[WALLETS] as usize;
     let amount_out_of_range = !((1 <= s.amount) & (s.amount <= MAX_AMOUNT_MICRO));

@@ -8,7 +8,7 @@ use native.Mathlib.Omega.{arith}
 use lib.Dec.{eqb}
 use lib.ListN.{length}
 use Rattle.rules.specs.Limits.{RECORD_BYTES}
-use Rattle.rules.specs.Numbers.{numbered, read_as}
+use Rattle.rules.specs.Numbers.{as_number, read_as}
 use Rattle.rules.specs.Record.{nothing, encode, well_formed, well_formed_by, read_of, Written, write_of}
 use Rattle.rules.specs.Promises.{Fields, Bytes}
 use Rattle.rules.specs.declared.Submission.{Submission}
@@ -25,15 +25,15 @@ trip_of_fields s out out' n o fits w x =
     (e, x, λ z. same_read o (Some s) (x ∙ ap read_of e ∙ written_read s out fits z))
 
 pub trip_of_bytes : (b out out' : List ℕ) (s : Submission) (r : Result Unit Refusal) → Bytes b → read_as (Some s) ≡ read_of b
-    → ◌≡◌ {A = Written} (record { number = numbered r; out = out' }) (write_of s out)
-    → (◌≡◌ {A = Written} (record { number = numbered r; out = out' }) (write_of (read_of b).submission out))
+    → ◌≡◌ {A = Written} (record { number = as_number r; out = out' }) (write_of s out)
+    → (◌≡◌ {A = Written} (record { number = as_number r; out = out' }) (write_of (read_of b).submission out))
     × ((read_of b).number ≡ 0 → length out ≡ RECORD_BYTES → (r ≡ Ok tt) × (out' ≡ b))
 trip_of_bytes b out out' s r bytes x w =
-    let y : ◌≡◌ {A = Written} (record { number = numbered r; out = out' }) (write_of (read_of b).submission out) =
+    let y : ◌≡◌ {A = Written} (record { number = as_number r; out = out' }) (write_of (read_of b).submission out) =
     w ∙ ap (λ (v : Read). write_of v.submission out) x in (
       y,
       λ z l.
-          let e : ◌≡◌ {A = Written} (record { number = numbered r; out = out' }) (record { number = 0; out = b }) = y ∙ read_written b out bytes z l in
+          let e : ◌≡◌ {A = Written} (record { number = as_number r; out = out' }) (record { number = 0; out = b }) = y ∙ read_written b out bytes z l in
           (same_outcome r (Ok tt) (ap (λ (v : Written). v.number) e), ap (λ (v : Written). v.out) e),
     )
 

@@ -4,7 +4,7 @@ use Rattle.std.specs.Prelude.{Option, Result}
 use mathlib.Core.Path.{◌≡◌, sym, ap, ap₂, ◌∙◌}
 use mathlib.Core.List.{List}
 use Prim.Native.Nat.{ℕ}
-use Rattle.rules.specs.Numbers.{numbered}
+use Rattle.rules.specs.Numbers.{as_number}
 use Rattle.rules.specs.Record.{read_of, Written}
 use Rattle.rules.specs.Results.{Sole}
 use Rattle.rules.specs.declared.Submission.{Submission}
@@ -34,7 +34,7 @@ abbrev Left : Type 0
 Left = Result Unit Refusal × List ℕ
 
 left : (x y : Result Unit Refusal) (out out' : List ℕ)
-    → ◌≡◌ {A = Written} (record { number = numbered x; out = out }) (record { number = numbered y; out = out' }) → ◌≡◌ {A = Left} (x, out) (y, out')
+    → ◌≡◌ {A = Written} (record { number = as_number x; out = out }) (record { number = as_number y; out = out' }) → ◌≡◌ {A = Left} (x, out) (y, out')
 left x y out out' e =
     ap₂ (λ (r : Result Unit Refusal) (o : List ℕ). (r, o)) (same_outcome x y (ap (λ (w : Written). w.number) e)) (ap (λ (w : Written). w.out) e)
 

@@ -3,7 +3,7 @@
 
 ghost use Rattle.std.specs.Prelude.{◌≡◌, length};
 ghost use Rattle.rules.specs.Limits;
-ghost use Rattle.rules.specs.Numbers.{numbered, read_as};
+ghost use Rattle.rules.specs.Numbers.{as_number, read_as};
 ghost use Rattle.rules.specs.Record.{decode, encode, read_by, read_of, Written, write_of};
 
 use rules::limits::{MARK_0, MARK_1, RECORD_BYTES};
@@ -79,7 +79,7 @@ fn put_fields(s: Submission, out: &mut [u8])
 
 // Writes a record; of one that would be malformed, or an output that is not as long as a record, the output stays as it was.
 pub fn write_record(s: Submission, out: &mut [u8]) -> Result<(), Refusal>
-    ensures { ◌≡◌ {A = Written} (record { number = numbered result; out = out.new }) (write_of s out.old) }
+    ensures { ◌≡◌ {A = Written} (record { number = as_number result; out = out.new }) (write_of s out.old) }
 {
     if out.len() != RECORD_BYTES {
         return Err(Refusal::MalformedRecord);

@@ -4,7 +4,7 @@ ghost use Rattle.rules.specs.Limits;
 ghost use Rattle.rules.specs.Table.{word};
 ghost use Rattle.rules.specs.Ledger.{Ledger, Sized};
 ghost use Rattle.rules.specs.Moments.{any, ◌of_edition◌, ◌seeing_header◌, ◌seeing_wallets◌, ◌seeing_escrows◌, ◌seeing_journal◌};
-ghost use Rattle.rules.specs.Numbers.{numbered};
+ghost use Rattle.rules.specs.Numbers.{as_number};
 ghost use Rattle.rules.specs.Refusals.{first, operation_refusals};
 ghost use Rattle.rules.specs.Wallets.{open_to};
 
@@ -18,7 +18,7 @@ use rules::{Edition, Submission, WalletState};
 // A sweep: check 12, of its limit.
 pub fn sweep_refusal(s: Submission) -> Result<(), Refusal>
     requires { s.op ≡ Limits.SWEEP }
-    ensures { (L : Ledger) → numbered result ≡ first (operation_refusals L s) }
+    ensures { (L : Ledger) → as_number result ≡ first (operation_refusals L s) }
 {
     let amount_out_of_range = !((1 <= s.amount) & (s.amount <= MAX_SWEEP_ROWS));
     first_of([(amount_out_of_range, Refusal::AmountOutOfRange)])
@@ -32,7 +32,7 @@ pub fn freeze_refusal(
     s: Submission,
 ) -> Result<(), Refusal>
     requires { (Limits.ENTRIES < length header.now) × (get_or header.now Limits.WALLETS 0 * Limits.WALLET_LEN ≤ length wallets.now) × (s.op ≡ Limits.FREEZE) }
-    ensures { (K : Ledger) → let L = any K seeing_header header seeing_wallets wallets seeing_journal journal in numbered result ≡ first (operation_refusals L.entry s) }
+    ensures { (K : Ledger) → let L = any K seeing_header header seeing_wallets wallets seeing_journal journal in as_number result ≡ first (operation_refusals L.entry s) }
 {
     let count = header[WALLETS] as usize;
     let entries = header[ENTRIES] as usize;
@@ -55,7 +55,7 @@ pub fn caps_refusal(
     s: Submission,
 ) -> Result<(), Refusal>
     requires { (Limits.ENTRIES < length header.now) × (get_or header.now Limits.WALLETS 0 * Limits.WALLET_LEN ≤ length wallets.now) × (s.op ≡ Limits.CAPS) }
-    ensures { (K : Ledger) → let L = any K seeing_header header seeing_wallets wallets seeing_journal journal in numbered result ≡ first (operation_refusals L.entry s) }
+    ensures { (K : Ledger) → let L = any K seeing_header header seeing_wallets wallets seeing_journal journal in as_number result ≡ first (operation_refusals L.entry s) }
 {
     let count = header[WALLETS] as usize;
     let entries = header[ENTRIES] as usize;
@@ -96,7 +96,7 @@ pub fn close_refusal(
     s: Submission,
 ) -> Result<(), Refusal>
     requires { (Limits.ENTRIES < length header.now) × (get_or header.now Limits.WALLETS 0 ≤ Limits.MAX_WALLETS) × (get_or header.now Limits.WALLETS 0 * Limits.WALLET_LEN ≤ length wallets.now) × (get_or header.now Limits.ESCROWS 0 * edition.escrow ≤ length escrows.now) × (s.op ≡ Limits.CLOSE) × Sized edition }
-    ensures { (K : Ledger) → let L = any K of_edition edition seeing_header header seeing_wallets wallets seeing_escrows escrows seeing_journal journal in numbered result ≡ first (operation_refusals L.entry s) }
+    ensures { (K : Ledger) → let L = any K of_edition edition seeing_header header seeing_wallets wallets seeing_escrows escrows seeing_journal journal in as_number result ≡ first (operation_refusals L.entry s) }
 {
     let count = header[WALLETS] as usize;
     let held = header[ESCROWS] as usize;

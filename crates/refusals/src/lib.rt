@@ -4,7 +4,7 @@
 
 ghost use Rattle.std.specs.Prelude.{◌≡◌};
 ghost use Rattle.rules.specs.Moments.{ledger_in};
-ghost use Rattle.rules.specs.Numbers.{numbered};
+ghost use Rattle.rules.specs.Numbers.{as_number};
 ghost use Rattle.rules.specs.Refusals.{first, operation_refusals};
 ghost use Rattle.refusals.specs.Checkable.{Checkable, later_refusals};
 
@@ -19,7 +19,7 @@ mod admin;
 #[tactic(auto, using(crate::proofs::Given::given))]
 fn operation_refusal(ledger: Tables<'_>, s: Submission) -> Result<(), Refusal>
     requires { Checkable (ledger_in ledger) s }
-    ensures { numbered result ≡ first (operation_refusals (ledger_in ledger.entry) s) }
+    ensures { as_number result ≡ first (operation_refusals (ledger_in ledger.entry) s) }
 {
     let Tables {
         edition,
@@ -54,7 +54,7 @@ fn operation_refusal(ledger: Tables<'_>, s: Submission) -> Result<(), Refusal>
 #[tactic(auto, using(crate::proofs::Given::given))]
 pub fn refusal(ledger: Tables<'_>, s: Submission) -> Result<(), Refusal>
     requires { Checkable (ledger_in ledger) s }
-    ensures { numbered result ≡ first (later_refusals (ledger_in ledger.entry) s) }
+    ensures { as_number result ≡ first (later_refusals (ledger_in ledger.entry) s) }
 {
     envelope::envelope_refusal(ledger.header, ledger.journal, s)?;
     operation_refusal(ledger, s)

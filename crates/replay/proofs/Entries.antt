@@ -12,7 +12,7 @@ use lib.ListN.{get_or, length, take, drop}
 use borrow.Author.Tests.{eq-eqb, ne_eqb}
 use Rattle.rules.specs.Limits.{RECORD_BYTES, ENTRY_BYTES, ANSWER_AT, WORD_AT}
 use Rattle.rules.specs.Ledger.{Ledger, Outcome, outcome, Sized}
-use Rattle.rules.specs.Numbers.{numbered, word_of, answer_to}
+use Rattle.rules.specs.Numbers.{as_number, word_of, answer_to}
 use Rattle.rules.specs.Record.{le_at}
 use Rattle.rules.specs.Recording.{Entry, entry_at, whole_entries, cut_short}
 use Rattle.rules.specs.Replay.{on, stop, gone, answer, agrees, compared, ended, replay_on}
@@ -69,7 +69,7 @@ pub record Turn (r : List ℕ) (k : ℕ) (L : Ledger) (recorded answered : Answe
   pub given : outcome answered.number answered.word left ≡ submit L (take (k * ENTRY_BYTES + RECORD_BYTES - k * ENTRY_BYTES) (drop (k * ENTRY_BYTES) r))
 
 pub in_numbers : (step : Result ℕ Refusal) {answered : Answer} {left : Ledger} {o : Outcome} → answered ≡ answer_to step
-    → outcome (numbered step) (word_of step) left ≡ o → outcome answered.number answered.word left ≡ o
+    → outcome (as_number step) (word_of step) left ≡ o → outcome answered.number answered.word left ≡ o
 in_numbers step {left = left} told given = ap (λ (a : Answer). outcome a.number a.word left) told ∙ given
 
 module _ (r : List ℕ) {first : Ledger} (k : ℕ) {L : Ledger} (replaying : Replaying r first k L) (h : k < whole_entries r) {recorded answered : Answer} {left : Ledger} (turn : Turn r k L recorded answered left) {differ : Bool} (tested : differ ≡ not (eqb recorded.number answered.number && eqb recorded.word answered.word)) where

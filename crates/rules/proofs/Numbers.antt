@@ -5,7 +5,7 @@ use Rattle.std.specs.Result.{IsErrAnd}
 use Rattle.std.proofs.lemmas.Result.{err_from_is_err_and}
 use mathlib.Core.Path.{refl, sym, ap, ◌∙◌}
 use native.Mathlib.Omega.{arith}
-use Rattle.rules.specs.Numbers.{number_of, numbered, word_of, read_as, first_of}
+use Rattle.rules.specs.Numbers.{number_of, as_number, word_of, read_as, first_of}
 use Rattle.rules.specs.Refusals.{first}
 use Rattle.rules.specs.Refusals.{Refusal as Row}
 use Rattle.rules.proofs.Refused.{first_stop, first_pass}
@@ -20,10 +20,10 @@ abbrev pub chain : List (Bool × Refusal) → ℕ
 chain [] = 0
 chain (check ∷ checks) = cond check.0 (number_of check.1) (chain checks)
 
-pub numbered_first : {answer : Result Unit Refusal} (checks : List (Bool × Refusal)) → answer ≡ first_of checks → numbered answer ≡ chain checks
+pub numbered_first : {answer : Result Unit Refusal} (checks : List (Bool × Refusal)) → answer ≡ first_of checks → as_number answer ≡ chain checks
 unfolding first_of
-numbered_first checks e = ap numbered e ∙ go checks where
-  go : (checks : List (Bool × Refusal)) → numbered (first_of checks) ≡ chain checks
+numbered_first checks e = ap as_number e ∙ go checks where
+  go : (checks : List (Bool × Refusal)) → as_number (first_of checks) ≡ chain checks
   go [] = refl
   go ((true, r) ∷ checks) = refl
   go ((false, r) ∷ checks) = go checks
@@ -38,8 +38,8 @@ not_0 r = grind arith
 pub hands_on : {B : Type 0} (whole : Result B Refusal) (r : Refusal) → IsErr whole × IsErrAnd whole (λ y. y ≡ r) → whole ≡ Err r
 hands_on whole r e = let p = err_from_is_err_and whole e.1 in p.1 ∙ ap Err p.2
 
-leaves : {B : Type 0} (whole : Result B Refusal) (r : Refusal) → IsErr whole × IsErrAnd whole (λ y. y ≡ r) → numbered whole ≡ number_of r
-leaves whole r e = ap numbered (hands_on whole r e)
+leaves : {B : Type 0} (whole : Result B Refusal) (r : Refusal) → IsErr whole × IsErrAnd whole (λ y. y ≡ r) → as_number whole ≡ number_of r
+leaves whole r e = ap as_number (hands_on whole r e)
 
 -- behind a table: the number of its first check that holds, or else the rest
 abbrev pub before : List (Bool × Refusal) → ℕ → ℕ
@@ -48,7 +48,7 @@ before (check ∷ checks) rest = cond check.0 (number_of check.1) (before checks
 
 pub refused :
     {B : Type 0} {part : Result Unit Refusal} {r : Refusal} (whole : Result B Refusal) (checks : List (Bool × Refusal)) (rest : ℕ)
-    → part ≡ first_of checks → part ≡ Err r → IsErr whole × IsErrAnd whole (λ y. y ≡ r) → numbered whole ≡ before checks rest
+    → part ≡ first_of checks → part ≡ Err r → IsErr whole × IsErrAnd whole (λ y. y ≡ r) → as_number whole ≡ before checks rest
 unfolding first_of
 refused {r = r} whole checks rest e was q = leaves whole r q ∙ go checks (sym was ∙ e) where
   go : (checks : List (Bool × Refusal)) → Err r ≡ first_of checks → number_of r ≡ before checks rest
@@ -69,15 +69,15 @@ passed {x = x} checks rest e was = go checks (sym was ∙ e) where
 -- behind a part whose contract has the rows xs of the table of refusals: the first of these, or else of the rows ys behind them
 pub refused_by :
     {A B : Type 0} {part : Result A Refusal} {r : Refusal} (whole : Result B Refusal) (xs ys : List Row)
-    → numbered part ≡ first xs → part ≡ Err r → IsErr whole × IsErrAnd whole (λ y. y ≡ r) → numbered whole ≡ first (xs ++ ys)
+    → as_number part ≡ first xs → part ≡ Err r → IsErr whole × IsErrAnd whole (λ y. y ≡ r) → as_number whole ≡ first (xs ++ ys)
 refused_by {r = r} whole xs ys e was q =
-    let is : number_of r ≡ first xs = sym (ap numbered was) ∙ e in
+    let is : number_of r ≡ first xs = sym (ap as_number was) ∙ e in
     leaves whole r q ∙ is ∙ sym (first_stop xs ys (λ z. not_0 r (is ∙ z)))
 
 pub passed_by :
     {A : Type 0} {part : Result A Refusal} {x : A} (xs ys : List Row)
-    → all_numbered xs ≡ true → numbered part ≡ first xs → part ≡ Ok x → first ys ≡ first (xs ++ ys)
-passed_by xs ys n e was = sym (first_pass xs ys n (sym e ∙ ap numbered was))
+    → all_numbered xs ≡ true → as_number part ≡ first xs → part ≡ Ok x → first ys ≡ first (xs ++ ys)
+passed_by xs ys n e was = sym (first_pass xs ys n (sym e ∙ ap as_number was))
 
 -- ---- number and word decide an answer, and the number alone one that has no word
 
@@ -143,14 +143,14 @@ back AcceptanceClosed = refl
 back WalletNotEmpty = refl
 back WalletClosed = refl
 
-pub same_outcome : (x y : Result Unit Refusal) → numbered x ≡ numbered y → x ≡ y
+pub same_outcome : (x y : Result Unit Refusal) → as_number x ≡ as_number y → x ≡ y
 unfolding refusal_of
 same_outcome (Ok x) (Ok y) n = refl
 same_outcome (Ok x) (Err s) n = absurd (let e : None ≡ Some s = ap refusal_of n ∙ back s in cc)
 same_outcome (Err r) (Ok y) n = absurd (let e : Some r ≡ None = sym (back r) ∙ ap refusal_of n in cc)
 same_outcome (Err r) (Err s) n = let e : Some r ≡ Some s = sym (back r) ∙ ap refusal_of n ∙ back s in cc
 
-pub same_answer : (x y : Result ℕ Refusal) → numbered x ≡ numbered y → word_of x ≡ word_of y → x ≡ y
+pub same_answer : (x y : Result ℕ Refusal) → as_number x ≡ as_number y → word_of x ≡ word_of y → x ≡ y
 same_answer (Ok x) (Ok y) n w = ap Ok w
 same_answer (Ok x) (Err s) n w = absurd (let e = same_outcome (Ok tt) (Err s) n in cc)
 same_answer (Err r) (Ok y) n w = absurd (let e = same_outcome (Err r) (Ok tt) n in cc)

@@ -55,9 +55,9 @@ number_of WalletNotEmpty = 42
 number_of WalletClosed = 43
 
 -- the number of an answer
-abbrev pub numbered : {A : Type 0} → Result A Refusal → ℕ
-numbered (Ok x) = 0
-numbered (Err r) = number_of r
+abbrev pub as_number : {A : Type 0} → Result A Refusal → ℕ
+as_number (Ok x) = 0
+as_number (Err r) = number_of r
 
 -- its word: a refusal's is 0
 abbrev pub word_of : Result ℕ Refusal → ℕ
@@ -65,7 +65,7 @@ word_of (Ok word) = word
 word_of (Err r) = 0
 
 abbrev pub answer_to : Result ℕ Refusal → Answer
-answer_to r = record { number = numbered r; word = word_of r }
+answer_to r = record { number = as_number r; word = word_of r }
 
 -- "A malformed record is read as answer 3 with every field 0."
 abbrev pub read_as : Option Submission → Read
@@ -74,7 +74,7 @@ read_as None = record { number = 3; submission = nothing }
 
 -- what is decided of a record, as `decided` of Submit.antt has it
 abbrev pub decided_as : Decided → Read
-decided_as d = record { number = numbered d.outcome; submission = d.submission }
+decided_as d = record { number = as_number d.outcome; submission = d.submission }
 
 -- what the first check that holds refuses by
 unfoldable pub first_of : {E : Type 0} → List (Bool × E) → Result Unit E

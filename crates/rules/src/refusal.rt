@@ -1,5 +1,5 @@
 ghost use Rattle.std.specs.Prelude.{◌≡◌};
-ghost use Rattle.rules.specs.Numbers.{number_of, numbered, first_of};
+ghost use Rattle.rules.specs.Numbers.{number_of, as_number, first_of};
 
 // Why a submission is refused, by the paper's names; each is its number. The order of check is that of the table in specs/Refusals.antt.
 #[derive(Clone, Copy, PartialEq, Eq, Debug)]
@@ -60,7 +60,7 @@ impl Refusal {
 
 // The number of an answer that has no word: 0, or the refusal's.
 pub fn number(answer: Result<(), Refusal>) -> u64
-    ensures { result ≡ numbered answer }
+    ensures { result ≡ as_number answer }
 {
     match answer {
         Ok(()) => 0,
