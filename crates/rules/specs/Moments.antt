@@ -1,7 +1,7 @@
 -- The two moments of a call: the ledger at entry, as the call finds the tables that it is lent, and at exit, as it leaves them.
 -- A function that is lent all five tables speaks of `lent`. One that is lent only some speaks of any ledger K with those in the place of K's
 -- own, `any K with_header header with_wallets wallets`, and so names no table and no edition that it does not see. A table that is lent only to
--- be read stands under `seeing_` in the place of `with_`; where all five are, the words are `shown` and `tables_shown`.
+-- be read stands under `seeing_` in the place of `with_`; where all five are, they are lent as one, `ledger_in`.
 use Rattle.std.specs.Prelude.{List, ℕ}
 use Rattle.std.specs.Borrow.{Bor, MutBor}
 use denote.Triple.Both.{Both}
@@ -28,9 +28,6 @@ Sight = Both View View
 abbrev pub tables : Edition → Slice → Slice → Slice → Slice → Slice → Ledger
 tables edition header wallets escrows receipts journal = ledger_of edition header.now wallets.now escrows.now receipts.now journal.now
 
-abbrev pub tables_shown : Edition → View → View → View → View → View → Ledger
-tables_shown edition header wallets escrows receipts journal = ledger_of edition header.now wallets.now escrows.now receipts.now journal.now
-
 abbrev pub Moments : Type 0
 Moments = Both Ledger Ledger
 
@@ -38,12 +35,6 @@ abbrev pub lent : Edition → Loan → Loan → Loan → Loan → Loan → Momen
 lent edition h w e r j = record {
   entry = tables edition h.entry w.entry e.entry r.entry j.entry;
   exit = tables edition h.exit w.exit e.exit r.exit j.exit;
-}
-
-abbrev pub shown : Edition → Sight → Sight → Sight → Sight → Sight → Moments
-shown edition h w e r j = record {
-  entry = tables_shown edition h.entry w.entry e.entry r.entry j.entry;
-  exit = tables_shown edition h.exit w.exit e.exit r.exit j.exit;
 }
 
 -- some of them: any ledger, the same at both moments, and then what is lent in the place of its own
