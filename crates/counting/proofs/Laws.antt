@@ -11,26 +11,44 @@ use lib.ListN.{get_or}
 use borrow.Author.Tests.{eq-eqb, ne_eqb}
 use Rattle.rules.specs.Limits.{GRID_ROWS, ANSWERS, LAST_FIGURE, FIGURES}
 use Rattle.rules.specs.Ledger.{Ledger, Outcome, outcome}
+use Rattle.rules.specs.Numbers.{numbered, decided_as}
 use Rattle.rules.specs.Record.{decode, read_of}
 use Rattle.rules.specs.Report.{Grid, cell, raised, Report, report_of, grid_row, adds_of, Line, line_of, sums, tallied, first_past, passing, stopped}
 use Rattle.rules.specs.Settle.{Done, done, settle}
 use Rattle.rules.specs.Submit.{decided, finish, submit_read_by, submit_by, submit}
+use Rattle.rules.specs.declared.Decided.{Decided}
 use Rattle.rules.specs.declared.Read.{Read}
+use Rattle.rules.specs.declared.Submission.{Submission}
+use Rattle.grid.specs.declared.Named.{Named}
+use Rattle.grid.specs.Named.{number_of}
 use Rattle.rules.proofs.Adds.{adds_none}
 use Rattle.rules.proofs.Bounded.{passing_none}
 use Rattle.rules.proofs.Demand12.{on_the_list}
 use Rattle.rules.proofs.Tallies.{row_listed}
 use Rattle.counting.specs.Turn.{turned, turn_by, turn}
 
--- ---- what was decided, applied
+-- ---- what was decided, with the number that the code has of it
 
-pub apply_refused : (n : ℕ) (d : Done) (L : Ledger) → n ≢ 0 → L ≡ (finish n d L).left
-apply_refused zero d L h = absurd (h refl)
-apply_refused (suc n) d L h = refl
+abbrev pub as_read : ℕ → Submission → Read
+as_read n s = record { number = n; submission = s }
 
-pub apply_settled : (n : ℕ) (d : Done) (L K : Ledger) {w : ℕ} → n ≡ 0 → done w K ≡ d → K ≡ (finish n d L).left
-apply_settled zero d L K z e = ap (λ (x : Done). x.after) e
-apply_settled (suc n) d L K z e = absurd (omega (arith, z))
+pub number_read : (d : Decided) {n : ℕ} {r : Read} → n ≡ numbered d.outcome → decided_as d ≡ r → as_read n d.submission ≡ r
+number_read d e is = ap (λ (k : ℕ). as_read k d.submission) e ∙ is
+
+pub adds_by : (L : Ledger) (d : Decided) {n : ℕ} {x : List ℕ} → n ≡ numbered d.outcome
+    → x ≡ adds_of L d.submission (finish (numbered d.outcome) (settle d.submission L) L) → x ≡ adds_of L d.submission (finish n (settle d.submission L) L)
+adds_by L d e x = x ∙ ap (λ (k : ℕ). adds_of L d.submission (finish k (settle d.submission L) L)) (sym e)
+
+pub left_by : (L : Ledger) (d : Decided) {n : ℕ} {K : Ledger} → n ≡ numbered d.outcome → K ≡ (finish (numbered d.outcome) (settle d.submission L) L).left
+    → K ≡ (finish n (settle d.submission L) L).left
+left_by L d e x = x ∙ ap (λ (k : ℕ). (finish k (settle d.submission L) L).left) (sym e)
+
+-- what is named has a number that is not 0
+pub named_so : (named : Named) {n : ℕ} → n ≡ number_of named → n ≢ 0
+named_so named e z = not_0 named (sym e ∙ z)
+  where
+    not_0 : (named : Named) → number_of named ≢ 0
+    not_0 named = grind arith
 
 -- and what it adds
 
@@ -40,11 +58,6 @@ plans_none L d h = go d.number h
     go : (n : ℕ) → n ≢ 0 → (0 ∷ 0 ∷ 0 ∷ 0 ∷ 0 ∷ []) ≡ adds_of L d.submission (finish n (settle d.submission L) L)
     go zero h = absurd (h refl)
     go (suc n) h = sym (adds_none L d.submission (suc n) 0 h)
-
-pub plans_so : (L : Ledger) (d : Read) {x : List ℕ} → d.number ≡ 0
-    → x ≡ adds_of L d.submission (outcome 0 (settle d.submission L).word (settle d.submission L).after)
-    → x ≡ adds_of L d.submission (finish d.number (settle d.submission L) L)
-plans_so L d z e = e ∙ ap (λ (n : ℕ). adds_of L d.submission (finish n (settle d.submission L) L)) (sym z)
 
 -- ---- an entry
 
@@ -63,12 +76,12 @@ module _ {L : Ledger} {b : List ℕ} {d : Read} {row : ℕ} {adds : List ℕ} (f
   unfolding submit_by submit_read_by
   comes_to = ap (λ (x : Read). finish x.number (settle x.submission L) L) found.is
 
-  number_of : (n : ℕ) (x : Done) → (finish n x L).number ≡ n
-  number_of zero x = refl
-  number_of (suc n) x = refl
+  number_there : (n : ℕ) (x : Done) → (finish n x L).number ≡ n
+  number_there zero x = refl
+  number_there (suc n) x = refl
 
   number_is : d.number ≡ (submit L b).number
-  number_is = sym (number_of d.number (settle d.submission L)) ∙ ap (λ (o : Outcome). o.number) comes_to
+  number_is = sym (number_there d.number (settle d.submission L)) ∙ ap (λ (o : Outcome). o.number) comes_to
 
   adds_are : adds ≡ adds_of L (read_of b).submission (submit L b)
   adds_are = found.adds_is ∙ ap₂ (λ (x : Read) (o : Outcome). adds_of L x.submission o) found.is comes_to

@@ -6,6 +6,7 @@ ghost use Rattle.std.specs.Prelude.{◌≡◌, length};
 ghost use Rattle.rules.specs.Limits;
 ghost use Rattle.rules.specs.Ledger.{Ledger, Sized};
 ghost use Rattle.rules.specs.Moments.{tables, lent, any, ◌of_edition◌, ◌seeing_header◌, ◌seeing_escrows◌, ◌seeing_receipts◌};
+ghost use Rattle.rules.specs.Numbers.{numbered};
 ghost use Rattle.rules.specs.Report.{report_of, adds_of};
 ghost use Rattle.rules.specs.Settle.{settle};
 ghost use Rattle.rules.specs.Sound.{Ready};
@@ -14,7 +15,9 @@ ghost use Rattle.settling.specs.Needs.{Settles};
 ghost use Rattle.counting.specs.Turn.{Plans, turned, turn};
 
 use rules::limits::{ANSWERS, FIGURES, GRID_ROWS, NAMED, OPERATION_AT};
-use rules::{Edition, Read};
+use rules::refusal::number;
+use rules::tables::Tables;
+use rules::{Decided, Edition};
 
 // What a submission that was decided will add to the figures: a refusal adds nothing.
 fn planned(
@@ -22,15 +25,15 @@ fn planned(
     header: &[u64],
     escrows: &[u64],
     receipts: &[u64],
-    decided: Read,
+    decided: Decided,
 ) -> [u64; FIGURES]
     requires { Plans edition header.now escrows.now receipts.now decided }
-    ensures { (K : Ledger) → let L = any K of_edition edition seeing_header header seeing_escrows escrows seeing_receipts receipts in (decided.number ≡ 0 → Settles L.entry decided.submission) → result ≡ adds_of L.entry decided.submission (finish decided.number (settle decided.submission L.entry) L.entry) }
+    ensures { (K : Ledger) → let L = any K of_edition edition seeing_header header seeing_escrows escrows seeing_receipts receipts in (numbered decided.outcome ≡ 0 → Settles L.entry decided.submission) → result ≡ adds_of L.entry decided.submission (finish (numbered decided.outcome) (settle decided.submission L.entry) L.entry) }
 {
-    if decided.number != 0 {
-        return [0, 0, 0, 0, 0];
+    match decided.outcome {
+        Ok(()) => adding::adds(edition, header, escrows, receipts, decided.submission),
+        Err(_) => [0; FIGURES],
     }
-    adding::adds(edition, header, escrows, receipts, decided.submission)
 }
 
 // Settles a submission that was decided; a refusal changes nothing.
@@ -41,23 +44,22 @@ fn apply(
     escrows: &mut [u64],
     receipts: &mut [u64],
     journal: &mut [u64],
-    decided: Read,
+    decided: Decided,
 )
-    requires { decided.number ≡ 0 → Settles (tables edition header wallets escrows receipts journal) decided.submission }
-    ensures { let L = lent edition header wallets escrows receipts journal in L.exit ≡ (finish decided.number (settle decided.submission L.entry) L.entry).left }
+    requires { numbered decided.outcome ≡ 0 → Settles (tables edition header wallets escrows receipts journal) decided.submission }
+    ensures { let L = lent edition header wallets escrows receipts journal in L.exit ≡ (finish (numbered decided.outcome) (settle decided.submission L.entry) L.entry).left }
 {
-    if decided.number != 0 {
-        return;
+    if decided.outcome.is_ok() {
+        settling::settle(
+            edition,
+            header,
+            wallets,
+            escrows,
+            receipts,
+            journal,
+            decided.submission,
+        );
     }
-    settling::settle(
-        edition,
-        header,
-        wallets,
-        escrows,
-        receipts,
-        journal,
-        decided.submission,
-    );
 }
 
 // One entry: counted and applied; or, if a figure or its cell would pass 2^64 - 1, named, and nothing else is changed.
@@ -76,19 +78,26 @@ pub fn count_entry(
     requires { Sized edition × Ready (tables edition header wallets escrows receipts journal) × (length bytes.now ≡ Limits.RECORD_BYTES) }
     ensures { let L = lent edition header wallets escrows receipts journal in turned (report_of result figures.new named.new) L.exit ≡ turn (report_of grid figures.old named.old) L.entry bytes.now }
 {
-    let decided = editions::decide(edition, header, wallets, escrows, receipts, journal, bytes);
+    let ledger = Tables {
+        edition,
+        header,
+        wallets,
+        escrows,
+        receipts,
+        journal,
+    };
+    let decided = editions::decide(ledger, bytes);
+    let answer = number(decided.outcome);
     let row = grid::row_of(bytes[OPERATION_AT]);
-    let column = decided.number as usize;
+    let column = answer as usize;
     let adds = planned(edition, header, escrows, receipts, decided);
     let before = *figures;
     let count = grid::count(grid, row, column);
-    let figure = grid::passing(before, adds, count);
-    if figure != 0 {
-        *named = [figure, row as u64, decided.number];
+    if let Some(past) = grid::passing(before, adds, count) {
+        *named = [past.number(), row as u64, answer];
         return grid;
     }
-    let after = grid::summed(before, adds);
-    *figures = after;
+    *figures = grid::summed(before, adds);
     apply(
         edition, header, wallets, escrows, receipts, journal, decided,
     );

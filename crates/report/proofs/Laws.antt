@@ -67,11 +67,8 @@ module _ (r : List ℕ) {begun : Report} {first : Ledger} (k : ℕ) {L : Ledger}
       })
       go false f = absurd (eqb-false (passing R line) 0 f (unfold stopped in (sym (ap figure_in (stopped_so f)) ∙ z)))
 
-  -- the loop has counted the entry before it knows
-  pub stops_so : get_or R'.named 0 0 ≢ 0 → telling 0 (k + 1 - 1) R' L' ≡ telling_of (report_on submit begun first r)
-  stops_so n =
-      let e : k + 1 - 1 ≡ k = omega arith in
-      ap (λ (m : ℕ). telling 0 m R' L') e ∙ go (eqb (passing R line) 0) refl
+  pub stops_so : get_or R'.named 0 0 ≢ 0 → telling 0 k R' L' ≡ telling_of (report_on submit begun first r)
+  stops_so n = go (eqb (passing R line) 0) refl
     where
       go : (x : Bool) → eqb (passing R line) 0 ≡ x → telling 0 k R' L' ≡ telling_of (report_on submit begun first r)
       go true t = absurd (n (ap figure_in (counted_so t) ∙ unfold tallied in reporting.unnamed))
@@ -79,6 +76,7 @@ module _ (r : List ℕ) {begun : Report} {first : Ledger} (k : ℕ) {L : Ledger}
           ap (λ (x : Turned). telling 0 k x.report x.left) (stopped_so f)
           ∙ ap telling_of (stops_before submit reported (λ x. x) r k reporting.going h (submit L b) (reading (stopped R line) k) refl (unfold reported in rw f))
 
-pub all_read : (r : List ℕ) {begun : Report} {first : Ledger} (k : ℕ) {L : Ledger} {R : Report} → Reporting r begun first k L R → whole_entries r ≤ k
-    → telling 0 k R L ≡ telling_of (report_on submit begun first r)
-all_read r k reporting h = ap telling_of (ends submit reported (λ x. x) r k reporting.going h)
+pub all_read : (r : List ℕ) {begun : Report} {first : Ledger} (k : ℕ) {L : Ledger} {R : Report} → Reporting r begun first k L R → k ≡ whole_entries r
+    → telling 0 (whole_entries r) R L ≡ telling_of (report_on submit begun first r)
+all_read r k {L} {R} reporting h =
+    ap (λ (n : ℕ). telling 0 n R L) (sym h) ∙ ap telling_of (ends submit reported (λ x. x) r k reporting.going (omega arith))

@@ -14,6 +14,7 @@ ghost use Rattle.rules.specs.Submit.{submit};
 use rules::limits::{
     ANSWERS, BAD_TABLE, ENTRY_BYTES, FIGURES, GRID_ROWS, NAMED, NAMED_FIGURE, RECORD_BYTES, TOLD,
 };
+use rules::tables::Tables;
 use rules::{Edition, FIRST};
 
 // Every whole entry in turn, on the tables as they are, until a figure is named; what is told is answer 0 and how many entries were read.
@@ -35,11 +36,10 @@ fn report_on(
 {
     let entries = recording.len() / ENTRY_BYTES;
     let mut counts = grid;
-    let mut k: usize = 0;
-    while k < entries {
+    for k in 0..entries {
         let at = k * ENTRY_BYTES;
         let end = at + RECORD_BYTES;
-        k += 1;
+        // Rattle proves no call whose array is laid in a local that is there already: so by a name of its own.
         let more = counting::count_entry(
             edition,
             header,
@@ -55,11 +55,11 @@ fn report_on(
         counts = more;
         if named[NAMED_FIGURE] != 0 {
             // The report stopped before this entry.
-            *told = [0, k as u64 - 1];
+            *told = [0, k as u64];
             return counts;
         }
     }
-    *told = [0, k as u64];
+    *told = [0, entries as u64];
     counts
 }
 
@@ -80,7 +80,15 @@ fn report_afresh(
     requires { Sized edition }
     ensures { let L = lent edition header wallets escrows receipts journal in telling (get_or told.new Limits.TOLD_NUMBER 0) (get_or told.new Limits.TOLD_ENTRIES 0) (report_of result figures.new named.new) L.exit ≡ report submit (report_of grid figures.old named.old) L.entry recording.now }
 {
-    if !editions::lengths_right(edition, header, wallets, escrows, receipts, journal) {
+    let ledger = Tables {
+        edition,
+        header,
+        wallets,
+        escrows,
+        receipts,
+        journal,
+    };
+    if !editions::lengths_right(ledger) {
         *told = [BAD_TABLE, 0];
         return grid;
     }
@@ -88,7 +96,7 @@ fn report_afresh(
         *told = [0, 0];
         return grid;
     }
-    editions::fresh(edition, header, wallets, escrows, receipts, journal);
+    let _ = editions::fresh(edition, header, wallets, escrows, receipts, journal);
     report_on(
         edition, header, wallets, escrows, receipts, journal, recording, grid, figures, named, told,
     )

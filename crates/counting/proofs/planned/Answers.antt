@@ -1,14 +1,9 @@
 -- `counting::planned` meets its contract: a refusal adds nothing, and of a submission that settles it is what `adding` has worked out.
-use Rattle.counting.proofs.Laws.{plans_none, plans_so}
+use mathlib.Core.Path.{sym, ap, ◌∙◌}
+use Rattle.rules.specs.Numbers.{numbered, decided_as}
+use Rattle.rules.proofs.Numbers.{not_0}
+use Rattle.counting.proofs.Laws.{plans_none}
 use Rattle.counting.proofs.planned.Goals as goal
 
-pub returns-then-decided-ne0 : goal.returns-then-decided-ne0
-returns-then-decided-ne0 c = λ K p. plans_none _ _ c.if-decided-ne0.true
-
-pub adds-requires : goal.adds-requires
-adds-requires c =
-    let asked = c.requires in
-    record { wallets = asked.wallets; journal = asked.journal; settles = asked.settles c.if-decided-ne0.false }
-
-pub returns : goal.returns
-returns c = λ K p. plans_so _ _ c.if-decided-ne0.false (c.adds.ensures K (p c.if-decided-ne0.false))
+pub returns-in-Err : goal.returns-in-Err
+returns-in-Err c = λ K p. plans_none _ (decided_as c.args.decided) (λ z. not_0 _ (sym (ap numbered c.in-Err.is) ∙ z))

@@ -2,6 +2,7 @@
 -- are ready for the next entry.
 use mathlib.Core.Path.{refl}
 use Rattle.report.proofs.Laws.{part_length, reporting_none, one_more, stops_so, all_read}
+use native.Mathlib.Omega.{arith}
 use borrow.Author.Rules.{rules}
 use Rattle.report.proofs.report_on.Goals as goal
 
@@ -31,4 +32,4 @@ loop-k-preserved c = (
 )
 
 pub returns : goal.returns
-returns c = all_read c.args.recording.now _ c.loop-k.invariant.1 c.loop-k-test.false
+returns c = all_read c.args.recording.now _ c.loop-k.invariant.1 (omega arith)
