@@ -11,7 +11,7 @@ use lib.ListN.{get_or}
 use borrow.Author.Tests.{eq-eqb, ne_eqb}
 use Rattle.rules.specs.Limits.{GRID_ROWS, ANSWERS, LAST_FIGURE, FIGURES}
 use Rattle.rules.specs.Ledger.{Ledger, Outcome, outcome}
-use Rattle.rules.specs.Numbers.{numbered, decided_as}
+use Rattle.rules.specs.Numbers.{as_number, decided_as}
 use Rattle.rules.specs.Record.{decode, read_of}
 use Rattle.rules.specs.Report.{Grid, cell, raised, Report, report_of, grid_row, adds_of, Line, line_of, sums, tallied, first_past, passing, stopped}
 use Rattle.rules.specs.Settle.{Done, done, settle}
@@ -32,14 +32,14 @@ use Rattle.counting.specs.Turn.{turned, turn_by, turn}
 abbrev pub as_read : ℕ → Submission → Read
 as_read n s = record { number = n; submission = s }
 
-pub number_read : (d : Decided) {n : ℕ} {r : Read} → n ≡ numbered d.outcome → decided_as d ≡ r → as_read n d.submission ≡ r
+pub number_read : (d : Decided) {n : ℕ} {r : Read} → n ≡ as_number d.outcome → decided_as d ≡ r → as_read n d.submission ≡ r
 number_read d e is = ap (λ (k : ℕ). as_read k d.submission) e ∙ is
 
-pub adds_by : (L : Ledger) (d : Decided) {n : ℕ} {x : List ℕ} → n ≡ numbered d.outcome
-    → x ≡ adds_of L d.submission (finish (numbered d.outcome) (settle d.submission L) L) → x ≡ adds_of L d.submission (finish n (settle d.submission L) L)
+pub adds_by : (L : Ledger) (d : Decided) {n : ℕ} {x : List ℕ} → n ≡ as_number d.outcome
+    → x ≡ adds_of L d.submission (finish (as_number d.outcome) (settle d.submission L) L) → x ≡ adds_of L d.submission (finish n (settle d.submission L) L)
 adds_by L d e x = x ∙ ap (λ (k : ℕ). adds_of L d.submission (finish k (settle d.submission L) L)) (sym e)
 
-pub left_by : (L : Ledger) (d : Decided) {n : ℕ} {K : Ledger} → n ≡ numbered d.outcome → K ≡ (finish (numbered d.outcome) (settle d.submission L) L).left
+pub left_by : (L : Ledger) (d : Decided) {n : ℕ} {K : Ledger} → n ≡ as_number d.outcome → K ≡ (finish (as_number d.outcome) (settle d.submission L) L).left
     → K ≡ (finish n (settle d.submission L) L).left
 left_by L d e x = x ∙ ap (λ (k : ℕ). (finish k (settle d.submission L) L).left) (sym e)
 

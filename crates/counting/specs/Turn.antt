@@ -1,7 +1,7 @@
 -- One entry of a recording, as the report's loop takes it: what it leaves of a report and a ledger. And what working out its figures relies on.
 use Rattle.std.specs.Prelude.{◌≡◌, List, cond, ℕ, eqb}
 use Rattle.rules.specs.Ledger.{Ledger, ledger_of}
-use Rattle.rules.specs.Numbers.{numbered}
+use Rattle.rules.specs.Numbers.{as_number}
 use Rattle.rules.specs.Report.{Report, Line, line_of, tallied, passing, stopped}
 use Rattle.rules.specs.Submit.{submit}
 use Rattle.rules.specs.declared.Edition.{Edition}
@@ -26,4 +26,4 @@ turn R L bytes = let o = submit L bytes in turn_by R L o.left (line_of L bytes o
 pub record Plans (ed : Edition) (header escrows receipts : List ℕ) (decided : Decided) : Type 0 where
   pub wallets : List ℕ
   pub journal : List ℕ
-  pub settles : numbered decided.outcome ≡ 0 → Settles (ledger_of ed header wallets escrows receipts journal) decided.submission
+  pub settles : as_number decided.outcome ≡ 0 → Settles (ledger_of ed header wallets escrows receipts journal) decided.submission

@@ -6,7 +6,7 @@ ghost use Rattle.std.specs.Prelude.{◌≡◌, length};
 ghost use Rattle.rules.specs.Limits;
 ghost use Rattle.rules.specs.Ledger.{Ledger, Sized};
 ghost use Rattle.rules.specs.Moments.{tables, lent, any, ◌of_edition◌, ◌seeing_header◌, ◌seeing_escrows◌, ◌seeing_receipts◌};
-ghost use Rattle.rules.specs.Numbers.{numbered};
+ghost use Rattle.rules.specs.Numbers.{as_number};
 ghost use Rattle.rules.specs.Report.{report_of, adds_of};
 ghost use Rattle.rules.specs.Settle.{settle};
 ghost use Rattle.rules.specs.Sound.{Ready};
@@ -28,7 +28,7 @@ fn planned(
     decided: Decided,
 ) -> [u64; FIGURES]
     requires { Plans edition header.now escrows.now receipts.now decided }
-    ensures { (K : Ledger) → let L = any K of_edition edition seeing_header header seeing_escrows escrows seeing_receipts receipts in (numbered decided.outcome ≡ 0 → Settles L.entry decided.submission) → result ≡ adds_of L.entry decided.submission (finish (numbered decided.outcome) (settle decided.submission L.entry) L.entry) }
+    ensures { (K : Ledger) → let L = any K of_edition edition seeing_header header seeing_escrows escrows seeing_receipts receipts in (as_number decided.outcome ≡ 0 → Settles L.entry decided.submission) → result ≡ adds_of L.entry decided.submission (finish (as_number decided.outcome) (settle decided.submission L.entry) L.entry) }
 {
     match decided.outcome {
         Ok(()) => adding::adds(edition, header, escrows, receipts, decided.submission),
@@ -46,8 +46,8 @@ fn apply(
     journal: &mut [u64],
     decided: Decided,
 )
-    requires { numbered decided.outcome ≡ 0 → Settles (tables edition header wallets escrows receipts journal) decided.submission }
-    ensures { let L = lent edition header wallets escrows receipts journal in L.exit ≡ (finish (numbered decided.outcome) (settle decided.submission L.entry) L.entry).left }
+    requires { as_number decided.outcome ≡ 0 → Settles (tables edition header wallets escrows receipts journal) decided.submission }
+    ensures { let L = lent edition header wallets escrows receipts journal in L.exit ≡ (finish (as_number decided.outcome) (settle decided.submission L.entry) L.entry).left }
 {
     if decided.outcome.is_ok() {
         settling::settle(
