@@ -1,6 +1,5 @@
 -- Laws of the passes.
 pub mod Totals
-pub mod Links
 pub mod Holds
 pub mod Parties
 pub mod Counted

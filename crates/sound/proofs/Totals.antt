@@ -1,15 +1,15 @@
--- The total that counts down from what was granted: too much of it, more than was granted, and what is left at the end.
+-- The total that counts down from what was granted: more than was granted, and what is left at the end.
 use mathlib.Core.Path.{◌≡◌, refl, sym}
 use mathlib.Core.Bool.{Bool, true, false, ◌&&◌, and-true}
 use mathlib.Core.List.{List}
 use Prim.Native.Nat.{ℕ, ◌+◌, ◌≤◌, ◌<◌}
 use native.Mathlib.Omega.{arith}
 use lib.Dec.{eqb, leb}
-use borrow.Author.Tests.{eq-eqb, ne_eqb, eqb-true, eqb-false, le-leb, lt-leb}
+use borrow.Author.Tests.{eq-eqb, ne_eqb, eqb-true, eqb-false, le-leb}
 use Rattle.rules.specs.Limits.{WALLET_LEN, MAX_GRANTED_MICRO, BALANCE, LOCKED}
 use Rattle.rules.specs.Table.{word, sum}
 use Rattle.rules.specs.Sound.{credits}
-use Rattle.rules.proofs.Bools.{and_none_fst, and_none_snd}
+use Rattle.rules.proofs.Bools.{and_none_fst}
 use Rattle.rules.proofs.Counts.{sum_step, sum_part}
 use Rattle.sound.specs.Parts.{wallets_in}
 
@@ -18,9 +18,6 @@ abbrev pub both : List ℕ → ℕ → ℕ
 both w i = word w WALLET_LEN i BALANCE + word w WALLET_LEN i LOCKED
 
 module _ (w : List ℕ) (n granted : ℕ) where
-  pub granted_more : MAX_GRANTED_MICRO < granted → false ≡ (eqb (credits (wallets_in w n)) granted && leb granted MAX_GRANTED_MICRO)
-  granted_more h = sym (and_none_snd (eqb (credits (wallets_in w n)) granted) (leb granted MAX_GRANTED_MICRO) (lt-leb _ _ h))
-
   -- a row below n takes the sum past what was granted
   pub credits_more : (i : ℕ) → i < n → granted < sum i (both w) + both w i → false ≡ (eqb (credits (wallets_in w n)) granted && leb granted MAX_GRANTED_MICRO)
   unfolding credits

@@ -2,11 +2,8 @@
 use native.Mathlib.Omega.{arith}
 use mathlib.Core.Path.{◌≡◌}
 use Rattle.rules.proofs.Counts.{sum_none, sum_step}
-use Rattle.sound.proofs.Totals.{both, granted_more, credits_more, credits_left}
+use Rattle.sound.proofs.Totals.{both, credits_more, credits_left}
 use Rattle.sound.proofs.wallets.total_right.Goals as goal
-
-pub returns-then-granted-gt-MAX_GRANTED_MICRO : goal.returns-then-granted-gt-MAX_GRANTED_MICRO
-returns-then-granted-gt-MAX_GRANTED_MICRO c = granted_more _ _ _ c.if-granted-gt-MAX_GRANTED_MICRO.true
 
 pub loop-i-init : goal.loop-i-init
 loop-i-init c = omega (arith, sum_none (both c.args.w.now))
