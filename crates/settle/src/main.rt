@@ -4,6 +4,7 @@
 
 ghost use Rattle.std.specs.Prelude.{◌≤◌, IfOk};
 
+use rules::Answer;
 use rules::limits::{GRANTED, RECORD_BYTES};
 use std::io;
 use std::io::{ErrorKind, Read};
@@ -50,7 +51,14 @@ fn step(
     if n == 0 {
         return Ok(false);
     }
-    let answer = ledger::submit(header, wallets, escrows, receipts, journal, &buffer[..n]);
+    let answer = Answer::from(ledger::submit(
+        header,
+        wallets,
+        escrows,
+        receipts,
+        journal,
+        &buffer[..n],
+    ));
     line(rt, ordinal, answer.number, answer.word)?;
     Ok(n == RECORD_BYTES)
 }
@@ -81,7 +89,8 @@ fn main(rt: HostRuntime) -> io::Result<()> {
     let mut escrows = [0u64; 1024];
     let mut receipts = [0u64; 1792];
     let mut journal = [0u64; 4096];
-    ledger::fresh(
+    // Tables of these lengths are not refused.
+    let _ = ledger::fresh(
         &mut header,
         &mut wallets,
         &mut escrows,
