@@ -15,6 +15,7 @@ ghost use Rattle.rules.specs.Submit.{submit};
 ghost use Rattle.rules.specs.Wallets.{standing_of};
 
 use rules::limits::{ANSWERS, FIGURES, GRID_ROWS, NAMED, TOLD, TOLD_ENTRIES, TOLD_NUMBER};
+use rules::refusal::number;
 use rules::{Answer, EscrowNumber, Read, ReceiptNumber, Standing, Submission, Told, Verdict};
 
 // A submission over the five lent tables: its answer, and the tables as document 01 lays them down; a refusal changes nothing.
@@ -29,7 +30,7 @@ pub extern "C" fn milebeacon_submit(
 ) -> Answer
     ensures { let L = lent first_edition header wallets escrows receipts journal in outcome result.number result.word L.exit ≡ submit L.entry bytes.now }
 {
-    ledger::submit(header, wallets, escrows, receipts, journal, bytes)
+    Answer::from(ledger::submit(header, wallets, escrows, receipts, journal, bytes))
 }
 
 // Starts afresh: 0, or 1 for a wrong length.
@@ -43,7 +44,7 @@ pub extern "C" fn milebeacon_fresh(
 ) -> u64
     ensures { let L = lent first_edition header wallets escrows receipts journal in outcome result 0 L.exit ≡ fresh L.entry }
 {
-    ledger::fresh(header, wallets, escrows, receipts, journal)
+    number(ledger::fresh(header, wallets, escrows, receipts, journal))
 }
 
 // Reads a record: 0 and its fields, or 3 and zeros.
@@ -51,7 +52,7 @@ pub extern "C" fn milebeacon_fresh(
 pub extern "C" fn milebeacon_read(bytes: &[u8]) -> Read
     ensures { result ≡ read_of bytes.now }
 {
-    record::read_record(bytes)
+    Read::from(record::read_record(bytes))
 }
 
 // Writes a record: 0 and its bytes, or 3 and the output as it was.
@@ -59,7 +60,7 @@ pub extern "C" fn milebeacon_read(bytes: &[u8]) -> Read
 pub extern "C" fn milebeacon_write(submission: Submission, out: &mut [u8]) -> u64
     ensures { ◌≡◌ {A = Written} (record { number = result; out = out.new }) (write_of submission out.old) }
 {
-    record::write_record(submission, out)
+    number(record::write_record(submission, out))
 }
 
 // The status of an answer.
@@ -76,7 +77,7 @@ pub extern "C" fn milebeacon_wallet_row(header: &[u64], wallets: &[u64], id: u64
     ensures { result ≡ standing_of (wallet_state first_edition header.now wallets.now id) }
 {
     let state = ledger::lookups::wallet_row(header, wallets, id);
-    looking::standing(state)
+    Standing::from(state)
 }
 
 // Where an escrow's row starts in its table, in words, or the table's length: a part of a slice cannot be returned across this boundary.
@@ -116,7 +117,7 @@ pub extern "C" fn milebeacon_replay(
     ensures { let L = lent first_edition header wallets escrows receipts journal in gone result L.exit ≡ told (replay submit L.entry recording.now) }
 {
     let found = replay::replay(header, wallets, escrows, receipts, journal, recording);
-    replay::verdict(found)
+    Verdict::from(found)
 }
 
 // Adds a recording to a month's report, on the lent tables, started afresh: the answer and how many entries were read, the grid, the figures and what is

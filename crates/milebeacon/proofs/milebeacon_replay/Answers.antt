@@ -11,4 +11,4 @@ told_by {left = left} replayed v = ap (λ (x : Verdict). gone x left) v ∙ ap t
 
 pub returns : goal.returns
 returns c =
-    told_by c.replay-found.ensures c.verdict.ensures
+    told_by c.replay-found.ensures c.from.ensures

@@ -4,4 +4,4 @@ use Rattle.rules.specs.Wallets.{standing_of}
 use Rattle.milebeacon.proofs.milebeacon_wallet_row.Goals as goal
 
 pub returns : goal.returns
-returns c = c.standing.ensures ∙ ap standing_of c.wallet_row-state.ensures
+returns c = c.from.ensures ∙ ap standing_of c.wallet_row-state.ensures
