@@ -5,13 +5,9 @@
 ghost use Rattle.std.specs.Prelude.{◌≤◌, IfOk};
 
 use rules::Answer;
-<<<<<<< HEAD
 use rules::limits::{
     ESCROW_LEN, GRANTED, HEADER_LEN, JOURNAL_LEN, RECEIPT_LEN, RECORD_BYTES, WALLET_LEN,
 };
-=======
-use rules::limits::{GRANTED, RECORD_BYTES};
->>>>>>> 2ba2c001c3082387bbee540acba22cbaa212a7f7
 use std::io;
 use std::io::{ErrorKind, Read};
 
@@ -93,19 +89,7 @@ fn step(
     if n == 0 {
         return Ok(false);
     }
-<<<<<<< HEAD
     line(rt, ordinal, tables.submit(&buffer[..n]))?;
-=======
-    let answer = Answer::from(ledger::submit(
-        header,
-        wallets,
-        escrows,
-        receipts,
-        journal,
-        &buffer[..n],
-    ));
-    line(rt, ordinal, answer.number, answer.word)?;
->>>>>>> 2ba2c001c3082387bbee540acba22cbaa212a7f7
     Ok(n == RECORD_BYTES)
 }
 
@@ -121,7 +105,6 @@ fn run(rt: &(impl Print + Input), tables: &mut Tables) -> io::Result<()> {
 }
 
 fn main(rt: HostRuntime) -> io::Result<()> {
-<<<<<<< HEAD
     let mut tables = Tables {
         header: [0; HEADER_LEN],
         wallets: [0; WALLET_WORDS],
@@ -132,29 +115,5 @@ fn main(rt: HostRuntime) -> io::Result<()> {
     tables.start();
     run(&rt, &mut tables)?;
     let granted = tables.header[GRANTED];
-=======
-    let mut header = [0u64; 8];
-    let mut wallets = [0u64; 384];
-    let mut escrows = [0u64; 1024];
-    let mut receipts = [0u64; 1792];
-    let mut journal = [0u64; 4096];
-    // Tables of these lengths are not refused.
-    let _ = ledger::fresh(
-        &mut header,
-        &mut wallets,
-        &mut escrows,
-        &mut receipts,
-        &mut journal,
-    );
-    run(
-        &rt,
-        &mut header,
-        &mut wallets,
-        &mut escrows,
-        &mut receipts,
-        &mut journal,
-    )?;
-    let granted = header[GRANTED];
->>>>>>> 2ba2c001c3082387bbee540acba22cbaa212a7f7
     println!(rt; "total {granted}")
 }
