@@ -1,5 +1,6 @@
 // What a submission that nothing refuses will add to the five figures of the month's report, worked out before it is settled: the tables
 // are read and not changed. An operation adds what its own words and rows say; a sweep is laid out receipt by receipt and escrow by escrow.
+// Each function is lent only the tables that it looks at: so its contract says that no other decides what is added.
 #![tactic(auto)]
 
 ghost use Rattle.std.specs.Prelude.{◌≡◌, ℕ, ◌-◌, ◌<◌, ◌≤◌, ◌^◌, get_or};

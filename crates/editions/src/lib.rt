@@ -1,6 +1,7 @@
 // The calls on a ledger of any edition: what holds for every edition is written and proved once. Each call takes the edition by value and asks
 // of it only that it is `Sized`; `ledger` has the calls of each edition that there is, which ask nothing. `step` alone asks something of the
-// tables, and no edition has it as a call.
+// tables, and no edition has it as a call. Tables that may be changed are five lent slices, the form that the paper names; those that are only read
+// come in one piece.
 #![tactic(auto)]
 
 ghost use Rattle.std.specs.Prelude.{◌≡◌};

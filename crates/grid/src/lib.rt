@@ -42,6 +42,7 @@ const SUMS: [Named; FIGURES] = [
 pub fn row_of(op: u8) -> usize
     ensures { result ≡ grid_row op }
 {
+    // not by `Operation::try_from`, which names what this only bounds
     if (op <= LAST_OPERATION) & (op != OLD_DISPUTE) {
         usize::from(op)
     } else {

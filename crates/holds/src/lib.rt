@@ -1,5 +1,6 @@
 // Checks 15 to 43 of the operations on escrows and receipts: release and refund, claim, the reply to a claim. Each condition is worked out by
-// the paper's name, and then the first that holds is taken, in the order of check.
+// the paper's name, and then the first that holds is taken, in the order of check. A function that needs not all the tables is lent only those that
+// it looks at: so its contract says that no other table decides it.
 #![tactic(auto)]
 
 ghost use Rattle.std.specs.Prelude.{◌≡◌, true, ◌⊎◌, ◌*◌, ◌^◌, ◌≤◌, ◌<◌, get_or, length};

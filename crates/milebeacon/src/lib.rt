@@ -1,5 +1,6 @@
 // Entry points for a host in Rust or C. Each only passes on to the core's own call and repeats its contract, so nothing new is decided here.
-// A slice is a pointer, then a count of elements.
+// A slice is a pointer, then a count of elements. An enum, an `Option` or a `Result` does not cross `extern "C"`: here every answer is in the paper's
+// numbers.
 #![tactic(auto)]
 
 ghost use Rattle.std.specs.Prelude.{◌≡◌};

@@ -115,7 +115,8 @@ fn payee(
     }
 }
 
-// State, closed at and closing signer of an escrow.
+// State, closed at and closing signer of an escrow. The state is the table's word: the definitions put any, and so does the contract. A receipt has
+// the like in columns of its own.
 fn close_escrow(
     edition: Edition,
     escrows: &mut [u64],

@@ -1,4 +1,5 @@
-// Checks 12 to 43 of the operations that bring credits to a wallet: grant, transfer and open.
+// Checks 12 to 43 of the operations that bring credits to a wallet: grant, transfer and open. Each check is lent only the tables that it looks at,
+// and not the ledger in one piece: so its contract says that no other table decides it.
 #![tactic(auto)]
 
 ghost use Rattle.std.specs.Prelude.{◌≡◌, ◌⊎◌, ◌+◌, ◌*◌, ◌≤◌, ◌<◌, get_or, length};

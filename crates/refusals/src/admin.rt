@@ -1,4 +1,5 @@
-// Checks 12 to 43 of the operations that move no credits by themselves: sweep, freeze, caps and close.
+// Checks 12 to 43 of the operations that move no credits by themselves: sweep, freeze, caps and close. Each is lent only the tables that it looks
+// at: so its contract says that no other table decides it.
 ghost use Rattle.std.specs.Prelude.{◌≡◌, ◌&&◌, ◌+◌, ◌*◌, ◌≤◌, ◌<◌, eqb, get_or, length};
 ghost use Rattle.rules.specs.Limits;
 ghost use Rattle.rules.specs.Table.{word};

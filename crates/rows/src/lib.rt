@@ -98,7 +98,7 @@ pub fn count_right(
     (header.len() == header_len) & (right & (at(header, c) <= (t.len() / len) as u64))
 }
 
-// Where a row starts in its table, in words, by its number; the table's length where there is no such row.
+// Where a row starts in its table, in words, by its number; the table's length where there is no such row, as C is told it.
 pub fn row_place(
     header: &[u64],
     t: &[u64],

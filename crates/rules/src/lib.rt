@@ -18,7 +18,7 @@ pub mod operation;
 pub mod refusal;
 pub mod tables;
 
-// The fields of a submission record. `op` and `flags` are the record's own bytes.
+// The fields of a submission record, as C has them too: `op` and `flags` are the record's own bytes, which any host may pass.
 #[repr(C)]
 #[derive(Clone, Copy)]
 pub struct Submission {
@@ -48,7 +48,7 @@ pub enum Form {
     Today,
 }
 
-// What reading a record finds: 0 and its fields, or 3 and zeros.
+// What reading a record finds, for C: 0 and its fields, or 3 and zeros.
 #[repr(C)]
 #[derive(Clone, Copy)]
 pub struct Read {
@@ -93,7 +93,7 @@ impl From<Option<Submission>> for Read {
     }
 }
 
-// The answer to a submission, in numbers.
+// The answer to a submission, in numbers: for C, and as a recording has it.
 #[repr(C)]
 #[derive(Clone, Copy, PartialEq, Eq, Debug)]
 pub struct Answer {
@@ -122,7 +122,7 @@ impl From<Result<u64, Refusal>> for Answer {
     }
 }
 
-// What a replay of a recording finds.
+// What a replay of a recording finds. A wrong length stands among the findings, as in the definitions' `replay`.
 #[derive(Clone, Copy)]
 pub enum Found {
     // The tables have a wrong length.
@@ -135,7 +135,7 @@ pub enum Found {
     Disagrees(u64, Answer, Answer),
 }
 
-// The same as numbers: the answer's, the finding's, how many entries were replayed, and both answers to the last of these if it disagrees.
+// The same as numbers, for C: the answer's, the finding's, how many entries were replayed, and both answers to the last of these if it disagrees.
 #[repr(C)]
 #[derive(Clone, Copy)]
 pub struct Verdict {
@@ -185,7 +185,7 @@ impl From<Found> for Verdict {
     }
 }
 
-// What adding a recording to the month's report came to: the answer, and how many entries were read.
+// What adding a recording to the month's report came to, in numbers for C: the answer, and how many entries were read.
 #[repr(C)]
 #[derive(Clone, Copy)]
 pub struct Told {
@@ -193,7 +193,8 @@ pub struct Told {
     pub entries: u64,
 }
 
-// What an edition fixes: its number, and the words of a header and of an escrow row.
+// What an edition fixes: its number, and the words of a header and of an escrow row. The type asks for no lengths: the lookups and every theorem take
+// any edition, and whoever needs `Sized` says so.
 #[derive(Clone, Copy)]
 pub struct Edition {
     pub number: u64,
@@ -208,7 +209,8 @@ pub const FIRST: Edition = Edition {
     escrow: ESCROW_LEN,
 };
 
-// The number of a row, counted from 1; 0 is no row. They are types of their own, so that none is taken for another.
+// The number of a row, counted from 1; 0 is no row. They are types of their own, so that none is taken for another. The types hold any word, since
+// a host may pass any; whoever reads a row asks that the number `Names` one.
 #[repr(C)]
 #[derive(Clone, Copy)]
 pub struct WalletNumber(pub u64);
@@ -232,7 +234,7 @@ pub enum WalletState {
     Closed(WalletNumber),
 }
 
-// The same as numbers: which of the three, and the number of its row, or 0.
+// The same as numbers, for C: which of the three, and the number of its row, or 0.
 #[repr(C)]
 #[derive(Clone, Copy)]
 pub struct Standing {

@@ -199,6 +199,7 @@ pub const OLD_DISPUTE: u8 = 8;
 // The last of them. The month's report has row 0 and a row for every operation: a later operation widens it here.
 pub const LAST_OPERATION: u8 = CLOSE;
 
+// `as`: `From` is no constant's.
 pub const GRID_ROWS: usize = LAST_OPERATION as usize + 1;
 
 // The last answer, and how many there are: the statuses, and the report's columns. A later answer widens both here.
@@ -218,7 +219,7 @@ pub const ACCEPTS: u8 = 4;
 
 pub const REASON_GIVEN: u8 = 8;
 
-// States of an escrow.
+// States of an escrow, as the lent tables have them: words.
 pub const IS_OPEN: u64 = 1;
 
 pub const RELEASED: u64 = 2;

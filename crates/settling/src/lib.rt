@@ -12,7 +12,8 @@ use rules::limits::{CLOCK, ENTRIES, JOURNAL_LEN, REFUNDED, RELEASED, SWEEP};
 use rules::operation::Operation;
 use rules::{Edition, Submission};
 
-// The operation, by its number. Each is lent the tables that it changes; the journal is lent to none.
+// The operation, by its name. Each is lent the tables that it changes, and so a `match`, and no table of functions of one type; the journal is
+// lent to none.
 fn operate(
     edition: Edition,
     header: &mut [u64],

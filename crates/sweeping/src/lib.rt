@@ -1,4 +1,5 @@
 // The sweep: due receipts in row order first, then due escrows in row order, until its limit. Its word counts the rows that it closed.
+// The tables come one by one, as in `moves`: what is not lent stays.
 #![tactic(auto)]
 
 ghost use Rattle.std.specs.Prelude.{◌≡◌, ◌&&◌, ℕ, ◌+◌, ◌-◌, ◌<◌, ◌≤◌, min, get_or, eqb, ltb};
