@@ -15,7 +15,7 @@ ghost use Rattle.rules.specs.Status.{status_of};
 ghost use Rattle.rules.specs.Submit.{submit};
 ghost use Rattle.rules.specs.Wallets.{standing_of};
 
-use rules::limits::{ANSWERS, FIGURES, GRID_ROWS, NAMED, TOLD, TOLD_ENTRIES, TOLD_NUMBER};
+use rules::limits::{ANSWERS, FIGURES, GRID_ROWS, NAMED};
 use rules::refusal::number;
 use rules::{Answer, EscrowNumber, Read, ReceiptNumber, Standing, Submission, Told, Verdict};
 
@@ -137,16 +137,11 @@ pub extern "C" fn milebeacon_report(
 ) -> Told
     ensures { let L = lent first_edition header wallets escrows receipts journal in telling result.number result.entries (report_of grid.new figures.new named.new) L.exit ≡ report submit (report_of grid.old figures.old named.old) L.entry recording.now }
 {
-    let before = *grid;
-    let mut told = [0u64; TOLD];
-    let after = report::report(
-        header, wallets, escrows, receipts, journal, recording, before, figures, named, &mut told,
+    let (after, told) = report::report(
+        header, wallets, escrows, receipts, journal, recording, *grid, figures, named,
     );
     *grid = after;
-    Told {
-        number: told[TOLD_NUMBER],
-        entries: told[TOLD_ENTRIES],
-    }
+    told
 }
 
 // Turns a recording of the old form into today's, in place. It takes any bytes and refuses nothing, so it has no answer.

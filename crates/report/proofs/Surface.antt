@@ -1,9 +1,7 @@
 -- THE DEMANDS OF THE CODE WITH REPORTS. A call of `ledger`, `record`, `rules` or `replay` as that surface shows it, or a report, by its own contract; and
 -- so the demands of every call and of every run, and that what a run recorded agrees.
 use mathlib.Core.Path.{refl}
-use lib.ListN.{get_or}
 use Rattle.rules.specs.Ledger.{first_edition}
-use Rattle.rules.specs.Limits.{TOLD_NUMBER, TOLD_ENTRIES}
 use Rattle.rules.specs.Report.{report_of}
 use Rattle.rules.specs.Results.{Ran, exits, Result, by_report, Meets}
 use Rattle.rules.specs.Runs.{Surface, CallsAreListed, CallsDecide, RunsAddUp, RunsRefuseRetries, RetriesChangeNothing, RunsRecordingsAgree}
@@ -26,8 +24,7 @@ shows (did_report x) =
     let left = (exits x).1.1.1.1.1 in
     by_report (five x.args) (five (exits x)) lent.0.now
     (report_of lent.1.0 lent.1.1.0.now lent.1.1.1.0.now)
-    (report_of x.answer left.1.1.0.now left.1.1.1.0.now)
-    (get_or left.1.1.1.1.0.now TOLD_NUMBER 0) (get_or left.1.1.1.1.0.now TOLD_ENTRIES 0)
+    (report_of x.answer.0 left.1.1.0.now left.1.1.1.0.now) x.answer.1.number x.answer.1.entries
 
 pub meets : (d : Did) → Meets first_edition (shows d)
 meets (did_replay d) = of_replay.meets d

@@ -13,10 +13,10 @@ ghost use Rattle.rules.specs.Sound.{Ready};
 ghost use Rattle.rules.specs.Submit.{submit};
 
 use rules::limits::{
-    ANSWERS, BAD_TABLE, ENTRY_BYTES, FIGURES, GRID_ROWS, NAMED, NAMED_FIGURE, RECORD_BYTES, TOLD,
+    ANSWERS, BAD_TABLE, ENTRY_BYTES, FIGURES, GRID_ROWS, NAMED, NAMED_FIGURE, RECORD_BYTES,
 };
 use rules::tables::Tables;
-use rules::{Edition, FIRST};
+use rules::{Edition, FIRST, Told};
 
 // Every whole entry in turn, on the tables as they are, until a figure is named; what is told is answer 0 and how many entries were read.
 fn report_on(
@@ -30,10 +30,9 @@ fn report_on(
     grid: [[u64; ANSWERS]; GRID_ROWS],
     figures: &mut [u64; FIGURES],
     named: &mut [u64; NAMED],
-    told: &mut [u64; TOLD],
-) -> [[u64; ANSWERS]; GRID_ROWS]
+) -> ([[u64; ANSWERS]; GRID_ROWS], Told)
     requires { Sized edition × Ready (tables edition header wallets escrows receipts journal) × (get_or named.old Limits.NAMED_FIGURE 0 ≡ 0) }
-    ensures { let L = lent edition header wallets escrows receipts journal in telling (get_or told.new Limits.TOLD_NUMBER 0) (get_or told.new Limits.TOLD_ENTRIES 0) (report_of result figures.new named.new) L.exit ≡ telling_of (report_on submit (report_of grid figures.old named.old) L.entry recording.now) }
+    ensures { let L = lent edition header wallets escrows receipts journal in telling result.1.number result.1.entries (report_of result.0 figures.new named.new) L.exit ≡ telling_of (report_on submit (report_of grid figures.old named.old) L.entry recording.now) }
 {
     let entries = recording.len() / ENTRY_BYTES;
     let mut counts = grid;
@@ -56,12 +55,22 @@ fn report_on(
         counts = more;
         if named[NAMED_FIGURE] != 0 {
             // The report stopped before this entry.
-            *told = [0, k as u64];
-            return counts;
+            return (
+                counts,
+                Told {
+                    number: 0,
+                    entries: k as u64,
+                },
+            );
         }
     }
-    *told = [0, entries as u64];
-    counts
+    (
+        counts,
+        Told {
+            number: 0,
+            entries: entries as u64,
+        },
+    )
 }
 
 // On the tables started afresh. A report that has named a figure has stopped: it and the tables stay as they are.
@@ -76,10 +85,9 @@ fn report_afresh(
     grid: [[u64; ANSWERS]; GRID_ROWS],
     figures: &mut [u64; FIGURES],
     named: &mut [u64; NAMED],
-    told: &mut [u64; TOLD],
-) -> [[u64; ANSWERS]; GRID_ROWS]
+) -> ([[u64; ANSWERS]; GRID_ROWS], Told)
     requires { Sized edition }
-    ensures { let L = lent edition header wallets escrows receipts journal in telling (get_or told.new Limits.TOLD_NUMBER 0) (get_or told.new Limits.TOLD_ENTRIES 0) (report_of result figures.new named.new) L.exit ≡ report submit (report_of grid figures.old named.old) L.entry recording.now }
+    ensures { let L = lent edition header wallets escrows receipts journal in telling result.1.number result.1.entries (report_of result.0 figures.new named.new) L.exit ≡ report submit (report_of grid figures.old named.old) L.entry recording.now }
 {
     let ledger = Tables {
         edition,
@@ -90,16 +98,26 @@ fn report_afresh(
         journal,
     };
     if !editions::lengths_right(ledger) {
-        *told = [BAD_TABLE, 0];
-        return grid;
+        return (
+            grid,
+            Told {
+                number: BAD_TABLE,
+                entries: 0,
+            },
+        );
     }
     if named[NAMED_FIGURE] != 0 {
-        *told = [0, 0];
-        return grid;
+        return (
+            grid,
+            Told {
+                number: 0,
+                entries: 0,
+            },
+        );
     }
     let _ = editions::fresh(edition, header, wallets, escrows, receipts, journal);
     report_on(
-        edition, header, wallets, escrows, receipts, journal, recording, grid, figures, named, told,
+        edition, header, wallets, escrows, receipts, journal, recording, grid, figures, named,
     )
 }
 
@@ -115,11 +133,10 @@ pub fn report(
     grid: [[u64; ANSWERS]; GRID_ROWS],
     figures: &mut [u64; FIGURES],
     named: &mut [u64; NAMED],
-    told: &mut [u64; TOLD],
-) -> [[u64; ANSWERS]; GRID_ROWS]
-    ensures { let L = lent first_edition header wallets escrows receipts journal in telling (get_or told.new Limits.TOLD_NUMBER 0) (get_or told.new Limits.TOLD_ENTRIES 0) (report_of result figures.new named.new) L.exit ≡ report submit (report_of grid figures.old named.old) L.entry recording.now }
+) -> ([[u64; ANSWERS]; GRID_ROWS], Told)
+    ensures { let L = lent first_edition header wallets escrows receipts journal in telling result.1.number result.1.entries (report_of result.0 figures.new named.new) L.exit ≡ report submit (report_of grid figures.old named.old) L.entry recording.now }
 {
     report_afresh(
-        FIRST, header, wallets, escrows, receipts, journal, recording, grid, figures, named, told,
+        FIRST, header, wallets, escrows, receipts, journal, recording, grid, figures, named,
     )
 }
