@@ -9,7 +9,7 @@ ghost use Rattle.rules.specs.Report.{cell, raised, grid_row, sums, first_past};
 
 use rules::limits::{ANSWERS, FIGURES, GRID_ROWS, LAST_FIGURE, LAST_OPERATION, OLD_DISPUTE};
 
-// What a report names where it stops: the figure that would pass, or the cell.
+// What a report names where it stops: the figure that would pass, by its place in the paper's order, or the cell, which comes behind them.
 #[derive(Clone, Copy, PartialEq, Eq, Debug)]
 pub enum Named {
     Granted = 1,

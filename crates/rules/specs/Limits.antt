@@ -140,13 +140,6 @@ EXPIRED_SUM = 4
 abbrev pub NAMED_FIGURE : ℕ
 NAMED_FIGURE = 0
 
--- words of what a call of the report tells: its answer, and how many entries it read
-abbrev pub TOLD_NUMBER : ℕ
-TOLD_NUMBER = 0
-
-abbrev pub TOLD_ENTRIES : ℕ
-TOLD_ENTRIES = 1
-
 -- words of the header
 abbrev pub EDITION : ℕ
 EDITION = 0

@@ -243,53 +243,21 @@ pub const RELEASE_IMPOSSIBLE: u64 = 29;
 // The first edition's number, the header's first word.
 pub const FIRST_EDITION: u64 = 1;
 
-// The answers that are given before a record's own checks begin.
+// The answers that a struct of numbers gives by itself; all are the numbers of `Refusal`.
 pub const BAD_TABLE: u64 = 1;
-
-pub const LEDGER_DAMAGED: u64 = 2;
 
 pub const MALFORMED_RECORD: u64 = 3;
 
 // The largest number that a figure of the month's report can have.
 pub const LAST_FIGURE: u64 = 18446744073709551615;
 
-// The report's five figures, in the paper's order; a figure is named by its place, counted from 1.
+// The report's five figures, in the paper's order.
 pub const FIGURES: usize = 5;
-
-pub const GRANTED_SUM: usize = 0;
-
-pub const TRANSFERRED_SUM: usize = 1;
-
-pub const RELEASED_SUM: usize = 2;
-
-pub const REFUNDED_SUM: usize = 3;
-
-pub const EXPIRED_SUM: usize = 4;
-
-pub const NAMED_GRANTED: u64 = 1;
-
-pub const NAMED_TRANSFERRED: u64 = 2;
-
-pub const NAMED_RELEASED: u64 = 3;
-
-pub const NAMED_REFUNDED: u64 = 4;
-
-pub const NAMED_EXPIRED: u64 = 5;
-
-// A cell of the grid comes behind the figures.
-pub const NAMED_CELL: u64 = 6;
 
 // Words of what a report has named: the figure, or 0, and the row and the column of the entry that it stopped before.
 pub const NAMED: usize = 3;
 
 pub const NAMED_FIGURE: usize = 0;
-
-// Words of what a call of the report tells: its answer, and how many entries it read.
-pub const TOLD: usize = 2;
-
-pub const TOLD_NUMBER: usize = 0;
-
-pub const TOLD_ENTRIES: usize = 1;
 
 // Where a record has its operation, and its flags.
 pub const OPERATION_AT: usize = 2;
