@@ -50,6 +50,7 @@ fn replay_on(
     ensures { let L = lent edition header wallets escrows receipts journal in gone result L.exit ≡ replay_on submit L.entry recording.now }
 {
     let entries = recording.len() / ENTRY_BYTES;
+    // By number, as the definitions count entries: of the pieces of `chunks_exact` it is not proved where in the recording each lies.
     for k in 0..entries {
         let at = k * ENTRY_BYTES;
         let end = at + RECORD_BYTES;

@@ -36,6 +36,7 @@ fn report_on(
 {
     let entries = recording.len() / ENTRY_BYTES;
     let mut counts = grid;
+    // By number, as the definitions count entries: of the pieces of `chunks_exact` it is not proved where in the recording each lies.
     for k in 0..entries {
         let at = k * ENTRY_BYTES;
         let end = at + RECORD_BYTES;
