@@ -10,13 +10,8 @@ use lib.Dec.{eqb}
 use lib.ListN.{get_or}
 use borrow.Author.Tests.{eq-eqb, ne_eqb}
 use Rattle.rules.specs.Limits.{GRID_ROWS, ANSWERS, LAST_FIGURE, FIGURES}
-<<<<<<< HEAD
-use Rattle.rules.specs.Ledger.{Ledger, Outcome, outcome}
-use Rattle.rules.specs.Numbers.{as_number, decided_as}
-=======
 use Rattle.rules.specs.Ledger.{Ledger, Outcome}
-use Rattle.rules.specs.Numbers.{numbered, decided_as}
->>>>>>> 58860fe122de8816f91c3480132da3e8f38b7b22
+use Rattle.rules.specs.Numbers.{as_number, decided_as}
 use Rattle.rules.specs.Record.{decode, read_of}
 use Rattle.rules.specs.Report.{Grid, cell, raised, Report, report_of, grid_row, adds_of, Line, line_of, sums, tallied, first_past, passing, stopped}
 use Rattle.rules.specs.Settle.{Done, settle}
