@@ -17,7 +17,7 @@ use Rattle.rules.proofs.Bools.{and_fst, and_snd, or_snd, not_true_false}
 abbrev pub goes_on : ℕ → Bool → Bool
 goes_on i found = ltb 0 i && not found
 
-pub left : (i : ℕ) (found : Bool) → goes_on i found ≡ true → 0 < i
+left : (i : ℕ) (found : Bool) → goes_on i found ≡ true → 0 < i
 left i found t = ltb-true 0 i (and_fst (ltb 0 i) (not found) t)
 
 module _ (j : List ℕ) (signer nonce : ℕ) where
@@ -36,9 +36,6 @@ module _ (j : List ℕ) (signer nonce : ℕ) where
   newest i l =
       let e : i ≡ i - 1 + 1 = omega arith in
       ap seen_below e ∙ ap seen_below (add-one (i - 1))
-
-  pub seen_begins : (n : ℕ) → Known n false n
-  seen_begins n = sym (or-false _)
 
   pub seen_next : (n i : ℕ) (found : Bool) → goes_on i found ≡ true → Known n found i → Known n (has (i - 1)) (i - 1)
   seen_next n i found t k =

@@ -20,7 +20,8 @@ pub fn seen(journal: &[u64], n: usize, signer: u64, nonce: u64) -> bool
     requires { n * Limits.JOURNAL_LEN ≤ length journal.now }
     ensures { result ≡ seen_in journal.now n signer nonce }
 {
-    // no return from the loop: with one, the compiler puts a branch between the two comparisons, and it is guessed wrong where a signer has many rows
+    // no return from the loop, nor a `for` with a break, nor `any`: with one, the compiler puts a branch between the two comparisons, and it is
+    // guessed wrong where a signer has many rows
     let mut found = false;
     let mut i = n;
     while (0 < i) & !found {

@@ -1,15 +1,20 @@
 -- A claim: the rows that the table of refusals leaves for it, and that its checks are those, in each case of what looking up
 -- its parties finds. The hypotheses of a law are what the calls ensure.
-use mathlib.Core.Path.{◌≡◌, sym, ◌∙◌}
-use mathlib.Core.List.{List, ◌∷◌}
+use mathlib.Core.Path.{◌≡◌, refl, sym, ◌∙◌}
+use mathlib.Core.List.{List, [], ◌∷◌, ◌++◌}
 use mathlib.Core.Bool.{true, false, not, cond, ◌&&◌, ◌||◌}
 use Prim.Native.Nat.{ℕ, ◌+◌, ◌-◌}
 use lib.ListN.{get_or}
 use lib.Dec.{eqb, ltb, leb}
-use Rattle.rules.specs.Limits.{RECEIPT_LEN, JOURNAL_LEN, MIN_ACCEPTANCE_MS, MAX_ACCEPTANCE_MS, CLAIM, ESCROWS, RECEIPTS, ENTRIES}
+use mathlib.Core.Logic.{⊎_elim}
+use Rattle.std.specs.Prelude.{◌≢◌}
+use Rattle.std.proofs.lemmas.Bool.{ne_eqb}
+use Rattle.std.proofs.lemmas.Bool.Decides.{eqb_tells}
+use Rattle.rules.proofs.Refused.{numbered}
+use Rattle.rules.specs.Limits.{RECEIPT_LEN, JOURNAL_LEN, MIN_ACCEPTANCE_MS, MAX_ACCEPTANCE_MS, CLAIM, ESCROWS}
 use Rattle.rules.specs.Limits.{FROM, TO, ESCROW_DEADLINE, ESCROW_STATE, IS_OPEN}
 use Rattle.rules.specs.Table.{word}
-use Rattle.rules.specs.Ledger.{Ledger, wallet_count, ledger_of, has_wallet, written, full}
+use Rattle.rules.specs.Ledger.{Ledger, wallet_count, escrow_count, receipt_count, entry_count, ledger_of, has_wallet, written, full}
 use Rattle.rules.specs.Wallets.{looked_up, is_closed}
 use Rattle.rules.specs.Refusals.{Refusal, row, first, operation_refusals_by, operation_refusals}
 use Rattle.rules.specs.declared.Edition.{Edition}
@@ -17,9 +22,7 @@ use Rattle.rules.specs.declared.Submission.{Submission}
 use Rattle.rules.specs.declared.WalletState.{WalletState}
 use Rattle.rules.specs.declared.WalletState.TheVariants.{Missing, Live, Closed}
 use Rattle.rules.proofs.Wallets.{Says, look_says}
-use Rattle.holds.specs.Named.{named}
-use Rattle.holds.specs.Terms.{link, term_refusals}
-use Rattle.holds.proofs.Numbers.{at_row}
+use Rattle.holds.specs.Terms.{link_refusals, term_refusals}
 
 unfoldable pub of_claim : Ledger → Submission → List Refusal
 of_claim L s =
@@ -35,29 +38,54 @@ claim_rows L s o = simp o
 
 -- ---- the terms
 
-pub terms_by :
-    (ed : Edition) (h w e r j : List ℕ) (s : Submission) (number from to deadline state : ℕ)
-    → number ≡ named (get_or h ESCROWS 0) s.link
-    → from ≡ word e ed.escrow (number - 1) FROM
-    → to ≡ word e ed.escrow (number - 1) TO
-    → deadline ≡ word e ed.escrow (number - 1) ESCROW_DEADLINE
-    → state ≡ word e ed.escrow (number - 1) ESCROW_STATE
-    → cond (ltb s.until (s.issued + MIN_ACCEPTANCE_MS)) 24
+-- room
+abbrev pub room : Ledger → List Refusal
+room L = row 39 (full RECEIPT_LEN L.receipts (receipt_count L)) ∷ row 40 (full JOURNAL_LEN L.journal (entry_count L)) ∷ []
+
+-- the times, and then the rest
+abbrev pub times : Submission → ℕ → ℕ
+times s rest =
+    cond (ltb s.until (s.issued + MIN_ACCEPTANCE_MS)) 24
     (cond (ltb (s.issued + MAX_ACCEPTANCE_MS) s.until) 25
-    (cond (ltb s.until s.now) 26
-    (cond (link s (not (written (get_or h ESCROWS 0) s.link))) 27
-    (cond (link s (written (get_or h ESCROWS 0) s.link && not (eqb state IS_OPEN && leb s.now deadline))) 29
-    (cond (link s (written (get_or h ESCROWS 0) s.link && (not (eqb from s.target) || not (eqb to s.signer)))) 30
-    (cond (link s (written (get_or h ESCROWS 0) s.link && ltb deadline s.until)) 31
-    (cond (full RECEIPT_LEN r (get_or h RECEIPTS 0)) 39
-    (cond (full JOURNAL_LEN j (get_or h ENTRIES 0)) 40 0))))))))
-    ≡ first (term_refusals (ledger_of ed h w e r j) s)
+    (cond (ltb s.until s.now) 26 rest))
+
+-- with a link and without one
+pub linked : (L : Ledger) (s : Submission) → s.link ≢ 0 → times s (first (link_refusals L s ++ room L)) ≡ first (term_refusals L s)
+unfolding term_refusals link_refusals
+linked L s l = rw (ne_eqb s.link 0 l)
+
+pub unlinked : (L : Ledger) (s : Submission) → s.link ≡ 0 → times s (first (room L)) ≡ first (term_refusals L s)
 unfolding term_refusals
-terms_by ed h w e r j s number from to deadline state a b d f g =
-    let x = at_row (get_or h ESCROWS 0) s.link number (λ i. not (eqb (word e ed.escrow i ESCROW_STATE) IS_OPEN && leb s.now (word e ed.escrow i ESCROW_DEADLINE))) a in
-    let y = at_row (get_or h ESCROWS 0) s.link number (λ i. not (eqb (word e ed.escrow i FROM) s.target) || not (eqb (word e ed.escrow i TO) s.signer)) a in
-    let z = at_row (get_or h ESCROWS 0) s.link number (λ i. ltb (word e ed.escrow i ESCROW_DEADLINE) s.until) a in
-    rw (b, d, f, g, x, y, z)
+unlinked L s l = rw l
+
+-- either way it is the times first
+pub timed : (L : Ledger) (s : Submission) → times s (cond (eqb s.link 0) (first (room L)) (first (link_refusals L s ++ room L))) ≡ first (term_refusals L s)
+timed L s = ⊎_elim (λ p. rw p.0 (unlinked L s p.1)) (λ p. rw p.0 (linked L s p.1)) (eqb_tells s.link 0)
+
+-- each has a number
+pub link_numbered : (L : Ledger) (s : Submission) → numbered (link_refusals L s) ≡ true
+unfolding link_refusals
+link_numbered L s = refl
+
+-- ---- the escrow
+
+pub link_absent : (L : Ledger) (s : Submission) → written (escrow_count L) s.link ≡ false → 27 ≡ first (link_refusals L s)
+unfolding link_refusals
+link_absent L s t = rw t
+
+pub link_by :
+    (ed : Edition) (h w e r j : List ℕ) (s : Submission) (from to deadline state : ℕ)
+    → written (get_or h ESCROWS 0) s.link ≡ true
+    → from ≡ word e ed.escrow (s.link - 1) FROM
+    → to ≡ word e ed.escrow (s.link - 1) TO
+    → deadline ≡ word e ed.escrow (s.link - 1) ESCROW_DEADLINE
+    → state ≡ word e ed.escrow (s.link - 1) ESCROW_STATE
+    → cond (not (eqb state IS_OPEN && leb s.now deadline)) 29
+    (cond (not (eqb from s.target) || not (eqb to s.signer)) 30
+    (cond (ltb deadline s.until) 31 0))
+    ≡ first (link_refusals (ledger_of ed h w e r j) s)
+unfolding link_refusals
+link_by ed h w e r j s from to deadline state t a b d f = rw (t, a, b, d, f)
 
 -- ---- the parties
 

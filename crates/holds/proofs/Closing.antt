@@ -1,9 +1,9 @@
 -- A release or a refund: the rows that the table of refusals leaves for it, and that its checks are those, in their order. The
 -- hypotheses of the law are what the calls ensure.
-use mathlib.Core.Path.{◌≡◌, sym}
+use mathlib.Core.Path.{◌≡◌, sym, ◌∙◌}
 use mathlib.Core.List.{List, [], ◌∷◌}
 use mathlib.Core.Logic.{◌⊎◌, ⊎_elim}
-use mathlib.Core.Bool.{not, cond, ◌&&◌, or-false}
+use mathlib.Core.Bool.{true, false, not, cond, ◌&&◌, or-false}
 use Prim.Native.Nat.{ℕ, ◌-◌}
 use lib.ListN.{get_or}
 use lib.Dec.{eqb, leb}
@@ -13,8 +13,6 @@ use Rattle.rules.specs.Ledger.{Ledger, ledger_of, escrow, escrow_count, entry_co
 use Rattle.rules.specs.Refusals.{Refusal, row, first, clear, of_escrow, releasable, operation_refusals_by, operation_refusals}
 use Rattle.rules.specs.declared.Edition.{Edition}
 use Rattle.rules.specs.declared.Submission.{Submission}
-use Rattle.holds.specs.Named.{named}
-use Rattle.holds.proofs.Numbers.{at_row}
 
 unfoldable pub of_closing : Ledger → Submission → List Refusal
 of_closing L s =
@@ -32,20 +30,24 @@ pub refund_rows : (L : Ledger) (s : Submission) → s.op ≡ REFUND → first (o
 unfolding operation_refusals_by of_closing
 refund_rows L s o = simp (o, or-false)
 
+closing_rows : (L : Ledger) (s : Submission) → (s.op ≡ RELEASE) ⊎ (s.op ≡ REFUND) → first (operation_refusals L s) ≡ first (of_closing L s)
+closing_rows L s o = ⊎_elim (release_rows L s) (refund_rows L s) o
+
+pub closing_absent :
+    (L : Ledger) (s : Submission) → (s.op ≡ RELEASE) ⊎ (s.op ≡ REFUND) → written (escrow_count L) s.target ≡ false → 27 ≡ first (operation_refusals L s)
+unfolding of_closing
+closing_absent L s o t = sym (closing_rows L s o ∙ rw t)
+
 pub closing_by :
-    (ed : Edition) (h w e r j : List ℕ) (s : Submission) (number from deadline state : ℕ)
+    (ed : Edition) (h w e r j : List ℕ) (s : Submission) (from deadline state : ℕ)
     → (s.op ≡ RELEASE) ⊎ (s.op ≡ REFUND)
-    → number ≡ named (get_or h ESCROWS 0) s.target
-    → from ≡ word e ed.escrow (number - 1) FROM
-    → deadline ≡ word e ed.escrow (number - 1) ESCROW_DEADLINE
-    → state ≡ word e ed.escrow (number - 1) ESCROW_STATE
-    → cond (not (written (get_or h ESCROWS 0) s.target)) 27
-    (cond (written (get_or h ESCROWS 0) s.target && (not (eqb s.signer from) && clear s ADMIN)) 28
-    (cond (written (get_or h ESCROWS 0) s.target && not (eqb state IS_OPEN && leb s.now deadline)) 29
-    (cond (full JOURNAL_LEN j (get_or h ENTRIES 0)) 40 0)))
+    → written (get_or h ESCROWS 0) s.target ≡ true
+    → from ≡ word e ed.escrow (s.target - 1) FROM
+    → deadline ≡ word e ed.escrow (s.target - 1) ESCROW_DEADLINE
+    → state ≡ word e ed.escrow (s.target - 1) ESCROW_STATE
+    → cond (not (eqb s.signer from) && clear s ADMIN) 28
+    (cond (not (eqb state IS_OPEN && leb s.now deadline)) 29
+    (cond (full JOURNAL_LEN j (get_or h ENTRIES 0)) 40 0))
     ≡ first (operation_refusals (ledger_of ed h w e r j) s)
 unfolding of_closing
-closing_by ed h w e r j s number from deadline state o a b d f =
-    let x = at_row (get_or h ESCROWS 0) s.target number (λ i. not (eqb s.signer (word e ed.escrow i FROM)) && clear s ADMIN) a in
-    let y = at_row (get_or h ESCROWS 0) s.target number (λ i. not (eqb (word e ed.escrow i ESCROW_STATE) IS_OPEN && leb s.now (word e ed.escrow i ESCROW_DEADLINE))) a in
-    rw (b, d, f, x, y) (sym (⊎_elim (release_rows _ s) (refund_rows _ s) o))
+closing_by ed h w e r j s from deadline state o t b d f = sym (closing_rows _ s o ∙ rw (t, b, d, f))

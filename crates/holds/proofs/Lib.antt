@@ -1,5 +1,4 @@
--- Laws of the rows that numbers name, and of the three groups of checks.
-pub mod Numbers
+-- Laws of the three groups of checks.
 pub mod Closing
 pub mod Claim
 pub mod Reply

@@ -1,8 +1,8 @@
 -- A reply to a claim: the rows that the table of refusals leaves for it, and that its checks are those, in their order. The
 -- hypotheses of the law are what the calls ensure.
-use mathlib.Core.Path.{◌≡◌, sym}
+use mathlib.Core.Path.{◌≡◌, sym, ◌∙◌}
 use mathlib.Core.List.{List, [], ◌∷◌}
-use mathlib.Core.Bool.{not, cond, ◌&&◌}
+use mathlib.Core.Bool.{true, false, not, cond, ◌&&◌}
 use Prim.Native.Nat.{ℕ, ◌-◌}
 use lib.ListN.{get_or}
 use lib.Dec.{eqb, ltb}
@@ -13,8 +13,6 @@ use Rattle.rules.specs.Ledger.{Ledger, ledger_of, receipt, receipt_count, entry_
 use Rattle.rules.specs.Refusals.{Refusal, row, first, clear, of_receipt, operation_refusals_by, operation_refusals}
 use Rattle.rules.specs.declared.Edition.{Edition}
 use Rattle.rules.specs.declared.Submission.{Submission}
-use Rattle.holds.specs.Named.{named}
-use Rattle.holds.proofs.Numbers.{at_row}
 
 unfoldable of_reply : Ledger → Submission → List Refusal
 of_reply L s =
@@ -30,23 +28,22 @@ reply_rows : (L : Ledger) (s : Submission) → s.op ≡ REPLY → first (operati
 unfolding operation_refusals_by of_reply
 reply_rows L s o = simp o
 
+pub reply_absent : (L : Ledger) (s : Submission) → s.op ≡ REPLY → written (receipt_count L) s.target ≡ false → 32 ≡ first (operation_refusals L s)
+unfolding of_reply
+reply_absent L s o t = sym (reply_rows L s o ∙ rw t)
+
 pub reply_by :
-    (ed : Edition) (h w e r j : List ℕ) (s : Submission) (number requester deadline state : ℕ)
+    (ed : Edition) (h w e r j : List ℕ) (s : Submission) (requester deadline state : ℕ)
     → s.op ≡ REPLY
-    → number ≡ named (get_or h RECEIPTS 0) s.target
-    → requester ≡ word r RECEIPT_LEN (number - 1) REQUESTER
-    → deadline ≡ word r RECEIPT_LEN (number - 1) ACCEPTANCE_DEADLINE
-    → state ≡ word r RECEIPT_LEN (number - 1) RECEIPT_STATE
-    → cond (not (written (get_or h RECEIPTS 0) s.target)) 32
-    (cond (written (get_or h RECEIPTS 0) s.target && not (eqb s.signer requester)) 33
-    (cond (written (get_or h RECEIPTS 0) s.target && not (eqb state PENDING)) 34
-    (cond (written (get_or h RECEIPTS 0) s.target && ltb deadline s.now) 41
+    → written (get_or h RECEIPTS 0) s.target ≡ true
+    → requester ≡ word r RECEIPT_LEN (s.target - 1) REQUESTER
+    → deadline ≡ word r RECEIPT_LEN (s.target - 1) ACCEPTANCE_DEADLINE
+    → state ≡ word r RECEIPT_LEN (s.target - 1) RECEIPT_STATE
+    → cond (not (eqb s.signer requester)) 33
+    (cond (not (eqb state PENDING)) 34
+    (cond (ltb deadline s.now) 41
     (cond (clear s ACCEPTS && clear s REASON_GIVEN) 35
-    (cond (full JOURNAL_LEN j (get_or h ENTRIES 0)) 40 0)))))
+    (cond (full JOURNAL_LEN j (get_or h ENTRIES 0)) 40 0))))
     ≡ first (operation_refusals (ledger_of ed h w e r j) s)
 unfolding of_reply
-reply_by ed h w e r j s number requester deadline state o a b d f =
-    let x = at_row (get_or h RECEIPTS 0) s.target number (λ i. not (eqb s.signer (word r RECEIPT_LEN i REQUESTER))) a in
-    let y = at_row (get_or h RECEIPTS 0) s.target number (λ i. not (eqb (word r RECEIPT_LEN i RECEIPT_STATE) PENDING)) a in
-    let z = at_row (get_or h RECEIPTS 0) s.target number (λ i. ltb (word r RECEIPT_LEN i ACCEPTANCE_DEADLINE) s.now) a in
-    rw (b, d, f, x, y, z) (sym (reply_rows _ s o))
+reply_by ed h w e r j s requester deadline state o t b d f = sym (reply_rows _ s o ∙ rw (t, b, d, f))

@@ -22,3 +22,12 @@ term_refusals L s =
     ∷ row 39 (full RECEIPT_LEN L.receipts (receipt_count L))
     ∷ row 40 (full JOURNAL_LEN L.journal (entry_count L))
     ∷ []
+
+-- those of the escrow, where there is a link
+unfoldable pub link_refusals : Ledger → Submission → List Refusal
+link_refusals L s =
+    row 27 (not (written (escrow_count L) s.link))
+    ∷ row 29 (of_escrow L s.link (not (releasable L s.now (s.link - 1))))
+    ∷ row 30 (of_escrow L s.link (not (eqb (escrow L (s.link - 1) FROM) s.target) || not (eqb (escrow L (s.link - 1) TO) s.signer)))
+    ∷ row 31 (of_escrow L s.link (ltb (escrow L (s.link - 1) ESCROW_DEADLINE) s.until))
+    ∷ []

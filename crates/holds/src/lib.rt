@@ -2,15 +2,14 @@
 // the paper's name, and then the first that holds is taken, in the order of check.
 #![tactic(auto)]
 
-ghost use Rattle.std.specs.Prelude.{◌≡◌, ◌⊎◌, ◌*◌, ◌^◌, ◌≤◌, ◌<◌, get_or, length};
+ghost use Rattle.std.specs.Prelude.{◌≡◌, true, ◌⊎◌, ◌*◌, ◌^◌, ◌≤◌, ◌<◌, get_or, length};
 ghost use Rattle.rules.specs.Limits;
-ghost use Rattle.rules.specs.Ledger.{Ledger, Sized};
+ghost use Rattle.rules.specs.Ledger.{Ledger, Sized, written};
 ghost use Rattle.rules.specs.Moments.{any, ledger_in, ◌of_edition◌, ◌seeing_header◌, ◌seeing_escrows◌, ◌seeing_receipts◌, ◌seeing_journal◌};
 ghost use Rattle.rules.specs.Numbers.{numbered};
 ghost use Rattle.rules.specs.Refusals.{first, operation_refusals};
 ghost use Rattle.rows.specs.Numbered.{Names};
-ghost use Rattle.holds.specs.Named.{named};
-ghost use Rattle.holds.specs.Terms.{term_refusals};
+ghost use Rattle.holds.specs.Terms.{link_refusals, term_refusals};
 
 use rules::limits::{
     ACCEPTANCE_DEADLINE, ACCEPTS, ADMIN, ENTRIES, ESCROW_DEADLINE, ESCROW_STATE, ESCROWS, FROM,
@@ -21,17 +20,13 @@ use rules::refusal::{Refusal, first_of};
 use rules::tables::Tables;
 use rules::{Edition, EscrowNumber, ReceiptNumber, Submission, WalletState};
 
-// A row's number, of a count of written ones. Where it names none of them, 1: what is read there counts for nothing.
-fn named(count: u64, number: u64) -> u64
+// Whether a number names one of so many written rows.
+fn written(count: u64, number: u64) -> bool
     requires { count ≤ 2 ^ 32 }
-    ensures is { result ≡ named count number }
-    ensures row { Names result }
+    ensures is { result ≡ written count number }
+    ensures row { result ≡ true → Names number }
 {
-    if (0 < number) & (number <= count) {
-        number
-    } else {
-        1
-    }
+    (0 < number) & (number <= count)
 }
 
 // A release or a refund: checks 27 to 29, 40.
@@ -45,21 +40,48 @@ pub fn closing_refusal(
     requires { (Limits.ENTRIES < length header.now) × (get_or header.now Limits.ESCROWS 0 ≤ Limits.MAX_ESCROWS) × ((s.op ≡ Limits.RELEASE) ⊎ (s.op ≡ Limits.REFUND)) × Sized edition }
     ensures { (K : Ledger) → let L = any K of_edition edition seeing_header header seeing_escrows escrows seeing_journal journal in numbered result ≡ first (operation_refusals L.entry s) }
 {
-    let count = header[ESCROWS];
-    let entries = header[ENTRIES] as usize;
-    let escrow = EscrowNumber(named(count, s.target));
+    if !written(header[ESCROWS], s.target) {
+        return Err(Refusal::EscrowNotFound);
+    }
+    let escrow = EscrowNumber(s.target);
     let from = rows::numbered::escrow(edition, escrows, escrow, FROM);
     let deadline = rows::numbered::escrow(edition, escrows, escrow, ESCROW_DEADLINE);
     let state = rows::numbered::escrow(edition, escrows, escrow, ESCROW_STATE);
-    let there = (0 < s.target) & (s.target <= count);
-    let signer_not_authorized = there & ((s.signer != from) & (s.flags / ADMIN % 2 == 0));
-    let not_open = there & !((state == IS_OPEN) & (s.now <= deadline));
-    let journal_table_full = journal.len() / JOURNAL_LEN <= entries;
+    let signer_not_authorized = (s.signer != from) & (s.flags / ADMIN % 2 == 0);
+    let not_open = !((state == IS_OPEN) & (s.now <= deadline));
+    let journal_table_full = journal.len() / JOURNAL_LEN <= header[ENTRIES] as usize;
     first_of([
-        (!there, Refusal::EscrowNotFound),
         (signer_not_authorized, Refusal::EscrowSignerNotAuthorized),
         (not_open, Refusal::EscrowNotOpen),
         (journal_table_full, Refusal::JournalTableFull),
+    ])
+}
+
+// Checks 27, 29 to 31 of a claim with a link: the escrow that it links.
+fn link_refusal(
+    edition: Edition,
+    header: &[u64],
+    escrows: &[u64],
+    s: Submission,
+) -> Result<(), Refusal>
+    requires { (Limits.ESCROWS < length header.now) × (get_or header.now Limits.ESCROWS 0 ≤ Limits.MAX_ESCROWS) × Sized edition }
+    ensures { (K : Ledger) → let L = any K of_edition edition seeing_header header seeing_escrows escrows in numbered result ≡ first (link_refusals L.entry s) }
+{
+    if !written(header[ESCROWS], s.link) {
+        return Err(Refusal::EscrowNotFound);
+    }
+    let escrow = EscrowNumber(s.link);
+    let from = rows::numbered::escrow(edition, escrows, escrow, FROM);
+    let to = rows::numbered::escrow(edition, escrows, escrow, TO);
+    let deadline = rows::numbered::escrow(edition, escrows, escrow, ESCROW_DEADLINE);
+    let state = rows::numbered::escrow(edition, escrows, escrow, ESCROW_STATE);
+    let escrow_not_open = !((state == IS_OPEN) & (s.now <= deadline));
+    let did_mismatch = (from != s.target) | (to != s.signer);
+    let exceeds_escrow = deadline < s.until;
+    first_of([
+        (escrow_not_open, Refusal::EscrowNotOpen),
+        (did_mismatch, Refusal::EscrowDidMismatch),
+        (exceeds_escrow, Refusal::AcceptanceDeadlineExceedsEscrow),
     ])
 }
 
@@ -75,33 +97,20 @@ fn terms_refusal(
     requires { (Limits.ENTRIES < length header.now) × (get_or header.now Limits.ESCROWS 0 ≤ Limits.MAX_ESCROWS) × (s.issued ≤ Limits.LAST_TIME_MS) × Sized edition }
     ensures { (K : Ledger) → let L = any K of_edition edition seeing_header header seeing_escrows escrows seeing_receipts receipts seeing_journal journal in numbered result ≡ first (term_refusals L.entry s) }
 {
-    let held = header[ESCROWS];
-    let claimed = header[RECEIPTS] as usize;
-    let entries = header[ENTRIES] as usize;
-    let escrow = EscrowNumber(named(held, s.link));
-    let from = rows::numbered::escrow(edition, escrows, escrow, FROM);
-    let to = rows::numbered::escrow(edition, escrows, escrow, TO);
-    let deadline = rows::numbered::escrow(edition, escrows, escrow, ESCROW_DEADLINE);
-    let state = rows::numbered::escrow(edition, escrows, escrow, ESCROW_STATE);
-    let linked = s.link != 0;
-    let there = (0 < s.link) & (s.link <= held);
     let window_too_short = s.until < s.issued + MIN_ACCEPTANCE_MS;
     let window_too_long = s.issued + MAX_ACCEPTANCE_MS < s.until;
     let deadline_past = s.until < s.now;
-    let escrow_not_found = linked & !there;
-    let escrow_not_open = linked & (there & !((state == IS_OPEN) & (s.now <= deadline)));
-    let did_mismatch = linked & (there & ((from != s.target) | (to != s.signer)));
-    let exceeds_escrow = linked & (there & (deadline < s.until));
-    let receipt_table_full = receipts.len() / RECEIPT_LEN <= claimed;
-    let journal_table_full = journal.len() / JOURNAL_LEN <= entries;
+    let receipt_table_full = receipts.len() / RECEIPT_LEN <= header[RECEIPTS] as usize;
+    let journal_table_full = journal.len() / JOURNAL_LEN <= header[ENTRIES] as usize;
     first_of([
         (window_too_short, Refusal::AcceptanceWindowTooShort),
         (window_too_long, Refusal::AcceptanceWindowTooLong),
         (deadline_past, Refusal::AcceptanceDeadlinePast),
-        (escrow_not_found, Refusal::EscrowNotFound),
-        (escrow_not_open, Refusal::EscrowNotOpen),
-        (did_mismatch, Refusal::EscrowDidMismatch),
-        (exceeds_escrow, Refusal::AcceptanceDeadlineExceedsEscrow),
+    ])?;
+    if s.link != 0 {
+        link_refusal(edition, header, escrows, s)?;
+    }
+    first_of([
         (receipt_table_full, Refusal::ReceiptTableFull),
         (journal_table_full, Refusal::JournalTableFull),
     ])
@@ -146,20 +155,19 @@ pub fn reply_refusal(
     requires { (Limits.ENTRIES < length header.now) × (get_or header.now Limits.RECEIPTS 0 ≤ Limits.MAX_RECEIPTS) × (s.op ≡ Limits.REPLY) }
     ensures { (K : Ledger) → let L = any K seeing_header header seeing_receipts receipts seeing_journal journal in numbered result ≡ first (operation_refusals L.entry s) }
 {
-    let count = header[RECEIPTS];
-    let entries = header[ENTRIES] as usize;
-    let receipt = ReceiptNumber(named(count, s.target));
+    if !written(header[RECEIPTS], s.target) {
+        return Err(Refusal::ReceiptNotFound);
+    }
+    let receipt = ReceiptNumber(s.target);
     let requester = rows::numbered::receipt(receipts, receipt, REQUESTER);
     let deadline = rows::numbered::receipt(receipts, receipt, ACCEPTANCE_DEADLINE);
     let state = rows::numbered::receipt(receipts, receipt, RECEIPT_STATE);
-    let there = (0 < s.target) & (s.target <= count);
-    let signer_not_authorized = there & (s.signer != requester);
-    let not_pending = there & (state != PENDING);
-    let acceptance_closed = there & (deadline < s.now);
+    let signer_not_authorized = s.signer != requester;
+    let not_pending = state != PENDING;
+    let acceptance_closed = deadline < s.now;
     let reason_required = (s.flags / ACCEPTS % 2 == 0) & (s.flags / REASON_GIVEN % 2 == 0);
-    let journal_table_full = journal.len() / JOURNAL_LEN <= entries;
+    let journal_table_full = journal.len() / JOURNAL_LEN <= header[ENTRIES] as usize;
     first_of([
-        (!there, Refusal::ReceiptNotFound),
         (signer_not_authorized, Refusal::ReceiptSignerNotAuthorized),
         (not_pending, Refusal::ReceiptNotPending),
         (acceptance_closed, Refusal::AcceptanceClosed),

@@ -1,6 +1,6 @@
 -- A grant: the rows that the table of refusals leaves for it, and that its groups of checks answer by the first of them, in each case of what looking
 -- up the recipient finds.
-use mathlib.Core.Path.{◌≡◌, sym, subst, ◌∙◌}
+use mathlib.Core.Path.{◌≡◌, sym, ◌∙◌}
 use mathlib.Core.List.{List, [], ◌∷◌}
 use mathlib.Core.Bool.{Bool, not, cond, ◌&&◌, or-false}
 use Prim.Native.Nat.{ℕ, ◌+◌}
@@ -14,7 +14,6 @@ use Rattle.rules.specs.Refusals.{Refusal, row, first, operation_refusals_by, ope
 use Rattle.rules.specs.declared.Edition.{Edition}
 use Rattle.rules.specs.declared.Submission.{Submission}
 use Rattle.rules.specs.declared.WalletState.{WalletState}
-use Rattle.rules.specs.declared.WalletState.TheVariants.{Missing, Live, Closed}
 use Rattle.rules.proofs.Wallets.{look_case}
 use Rattle.payments.proofs.Recipient.{by_recipient}
 

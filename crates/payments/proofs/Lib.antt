@@ -1,4 +1,4 @@
--- Laws of the sums and of the two groups of checks.
+-- Laws of the daily sum, and of the checks of a grant and of a payment.
 pub mod Whole
 pub mod Recipient
 pub mod Grant

@@ -1,6 +1,6 @@
 -- A transfer or an open: the rows that the table of refusals leaves for it, and that its groups of checks answer by the first of them, in each case of
 -- what looking up the sender and the recipient finds.
-use mathlib.Core.Path.{◌≡◌, refl, sym, subst, ◌∙◌}
+use mathlib.Core.Path.{◌≡◌, refl, sym, ◌∙◌}
 use mathlib.Core.List.{List, [], ◌∷◌}
 use mathlib.Core.Logic.{◌⊎◌, ⊎_elim}
 use mathlib.Core.Bool.{Bool, not, cond, ◌&&◌, ◌||◌, or-false}

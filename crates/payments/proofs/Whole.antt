@@ -1,28 +1,16 @@
--- Sums as whole numbers: a sum against a cap without the sum, and the daily sum row by row, which fits a word because each counted row
--- is a transfer or an open, of at most 10^15.
-use mathlib.Core.Path.{◌≡◌, refl, sym, ap, ◌∙◌}
+-- The daily sum as a whole number, row by row: it fits a word because each counted row is a transfer or an open, of at most 10^15.
+use mathlib.Core.Path.{◌≡◌, refl, sym, ◌∙◌}
 use mathlib.Core.List.{List}
 use mathlib.Core.Bool.{Bool, true, false, cond, ◌&&◌, ◌||◌, or-false}
-use Prim.Native.Nat.{ℕ, ◌+◌, ◌-◌, ◌*◌, ◌^◌, ◌≤◌, ◌<◌}
+use Prim.Native.Nat.{ℕ, ◌+◌, ◌*◌, ◌^◌, ◌≤◌, ◌<◌}
 use native.Mathlib.Omega.{arith}
-use lib.Dec.{eqb, ltb, leb}
-use borrow.Author.Tests.{ltb-true, ltb-false, lt-ltb, le-ltb}
+use lib.Dec.{eqb, leb}
 use Rattle.rules.specs.Limits.{JOURNAL_LEN, SIGNER, OPERATION, ENTRY_AMOUNT, SETTLED_AT, TRANSFER, OPEN, DAY_MS, MAX_AMOUNT_MICRO}
 use Rattle.rules.specs.Table.{word}
 use Rattle.rules.proofs.Bools.{and_fst, and_snd}
 use Rattle.rules.proofs.Counts.{sum_none, sum_step, sum_most}
 use Rattle.payments.specs.Entries.{Entries}
 use Rattle.rules.specs.Refusals.{one_of, paying, counts, counted_of}
-
-pub exceeds_over : (a b most : ℕ) → most < a → true ≡ ltb most (a + b)
-exceeds_over a b most h = sym (lt-ltb most (a + b) (omega arith))
-
-pub exceeds_under : (a b most : ℕ) → a ≤ most → ltb (most - a) b ≡ ltb most (a + b)
-exceeds_under a b most h = go (ltb (most - a) b) refl
-  where
-    go : (t : Bool) → ltb (most - a) b ≡ t → t ≡ ltb most (a + b)
-    go true e = sym (lt-ltb most (a + b) (omega (arith, ltb-true (most - a) b e)))
-    go false e = sym (le-ltb most (a + b) (omega (arith, ltb-false (most - a) b e)))
 
 module _ (j : List ℕ) (signer clock : ℕ) where
   -- what row i adds, and the same as the loop computes it

@@ -1,5 +1,5 @@
 -- What is left to check of a transfer or an open whose sender is live and pays somebody else: by the recipient's wallet, and by the sender's limits.
-use Rattle.std.specs.Prelude.{List, [], ◌∷◌, Bool, not, ◌&&◌, ◌+◌, eqb, ltb, leb}
+use Rattle.std.specs.Prelude.{List, [], ◌∷◌, not, ◌&&◌, ◌+◌, eqb, ltb, leb}
 use Rattle.rules.specs.Limits.{WALLET_LEN, JOURNAL_LEN, MAX_HOLD_MS, OPEN, BALANCE, TX_CAP, DAILY_CAP}
 use Rattle.rules.specs.Ledger.{Ledger, wallet_count, escrow_count, entry_count, has_wallet, wallet_of, full}
 use Rattle.rules.specs.Wallets.{is_closed}

@@ -54,6 +54,7 @@ pub fn grant_refusal(
 }
 
 // Checks 43, 17 to 21, 37, 38, 40 of a live sender: those of its recipient, and its limits.
+#[tactic(auto, using(rows::proofs::Found::names_found))]
 fn sending_refusal(
     edition: Edition,
     header: &[u64],
@@ -100,6 +101,7 @@ fn sending_refusal(
 }
 
 // A transfer or an open: checks 12 to 15, 43, 17 to 21, 37, 38, 40, in this order.
+#[tactic(auto, using(rules::proofs::Wallets::live_row, rows::proofs::Found::names_found))]
 pub fn paying_refusal(
     edition: Edition,
     header: &[u64],

@@ -11,7 +11,7 @@ use rules::limits::{
 pub fn exceeds(a: u64, b: u64, cap: u64) -> bool
     ensures { result ≡ ltb cap (a + b) }
 {
-    if cap < a { true } else { cap - a < b }
+    a.checked_add(b).is_none_or(|sum| cap < sum)
 }
 
 // The amounts of the signer's transfers and opens, of the first n journal rows, that are not older than 24 hours at the clock. The rows

@@ -1,9 +1,11 @@
 -- What the checks use of a sound ledger and a well-formed record, in plain numbers.
 use mathlib.Core.Path.{◌≡◌}
-use mathlib.Core.Logic.{◌≢◌}
+use mathlib.Core.Logic.{◌≢◌, ◌⊎◌, inl, inr}
 use mathlib.Core.List.{List}
 use mathlib.Core.Bool.{true, not, ◌||◌, or-false}
-use Prim.Native.Nat.{ℕ, ◌*◌, ◌≤◌, ◌<◌}
+use Prim.Native.Nat.{ℕ, ◌+◌, ◌*◌, ◌≤◌, ◌<◌}
+use native.Mathlib.Decide.{ℕ_discrete}
+use native.Mathlib.Omega.{arith}
 use lib.ListN.{get_or, length}
 use lib.Dec.{eqb, leb}
 use borrow.Author.Tests.{leb-true}
@@ -21,21 +23,21 @@ use Rattle.rules.proofs.Formed.{Formed, formed_says}
 use Rattle.payments.specs.Entries.{Entries}
 use Rattle.refusals.specs.Checkable.{Checkable}
 
-module _ {ed : Edition} {h w e r j : List ℕ} {s : Submission} (given : Checkable (ledger_of ed h w e r j) s) where
+module _ {ed : Edition} {h w e r j : List ℕ} {s : Submission} (c : Checkable (ledger_of ed h w e r j) s) where
   abbrev L : Ledger
   L = ledger_of ed h w e r j
 
   right : RightLedger L
-  right = sound_says L given.ready.sound
+  right = sound_says L c.ready.sound
 
   few : Few L
-  few = counts_few L given.ready.lengths right.header.within
+  few = counts_few L c.ready.lengths right.header.within
 
   form : Formed s
-  form = formed_says s given.formed
+  form = formed_says s c.formed
 
   pub header_there : ENTRIES < length h
-  header_there = header_wide L given.ready.lengths given.sized.header
+  header_there = header_wide L c.ready.lengths c.sized.header
 
   pub wallets_few : get_or h WALLETS 0 ≤ MAX_WALLETS
   wallets_few = few.wallets
@@ -83,3 +85,28 @@ module _ {ed : Edition} {h w e r j : List ℕ} {s : Submission} (given : Checkab
 
   pub issued_time : s.issued ≤ LAST_TIME_MS
   issued_time = form.issued_right
+
+-- one of two operations that follow each other
+pub either : (n op : ℕ) → n ≤ op → op < n + 2 → (op ≡ n) ⊎ (op ≡ n + 1)
+either n op lo hi = go (ℕ_discrete op n)
+  where
+    go : Dec (op ≡ n) → (op ≡ n) ⊎ (op ≡ n + 1)
+    go (yes e) = inl e
+    go (no e) = inr (omega (arith, e))
+
+-- all of them, from which what a check asks is found
+pub ruleset given = (
+  header_there,
+  wallets_few,
+  escrows_few,
+  receipts_few,
+  wallets_fit,
+  escrows_fit,
+  journal_fit,
+  entries,
+  op_low,
+  op_high,
+  now_time,
+  issued_time,
+  either,
+)

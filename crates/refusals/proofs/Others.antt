@@ -1,8 +1,8 @@
 -- A sweep, a freeze, new caps and a close: the rows that the table of refusals leaves for each, and that its checks answer by the first of them, in
 -- each case of what looking up the target finds.
-use mathlib.Core.Path.{◌≡◌, refl, sym, subst, ◌∙◌}
+use mathlib.Core.Path.{◌≡◌, refl, sym, ◌∙◌}
 use mathlib.Core.List.{List, [], ◌∷◌}
-use mathlib.Core.Bool.{Bool, true, false, not, cond, ◌&&◌, ◌||◌, or-false}
+use mathlib.Core.Bool.{Bool, not, cond, ◌&&◌, ◌||◌, or-false, and-true, and-false}
 use Prim.Native.Nat.{ℕ, ◌+◌, ◌-◌}
 use lib.ListN.{get_or}
 use lib.Dec.{eqb, ltb}
@@ -19,15 +19,6 @@ use Rattle.rules.specs.declared.WalletState.{WalletState}
 use Rattle.rules.specs.declared.WalletState.TheVariants.{Missing, Live, Closed}
 use Rattle.rules.proofs.Wallets.{look_case}
 use Rattle.rows.proofs.Found.{row_found}
-
--- a condition beside one that holds, or that does not
-and_true : (b : Bool) → b && true ≡ b
-and_true true = refl
-and_true false = refl
-
-and_none : (b : Bool) → b && false ≡ false
-and_none true = refl
-and_none false = refl
 
 unfoldable pub of_sweep : Submission → List Refusal
 of_sweep s = row 12 (not (between 1 MAX_SWEEP_ROWS s.amount)) ∷ []
@@ -99,8 +90,8 @@ freeze_by ed h w e r j s x o c = picks ∙ sym (freeze_rows _ s o)
     picks : x ≡ first (of_freeze (ledger_of ed h w e r j) s)
     picks =
         look_case (λ (found : WalletState). x ≡ freezing h j s found → x ≡ first (of_freeze (ledger_of ed h w e r j) s)) w (get_or h WALLETS 0) s.target
-        (λ m d. d ∙ rw (m, and_true (not (eqb s.target 0)))) (λ t n d. d ∙ rw (t, n, and_none (not (eqb s.target 0))))
-        (λ t n d. d ∙ rw (t, n, and_none (not (eqb s.target 0)))) c
+        (λ m d. d ∙ rw (m, and-true (not (eqb s.target 0)))) (λ t n d. d ∙ rw (t, n, and-false (not (eqb s.target 0))))
+        (λ t n d. d ∙ rw (t, n, and-false (not (eqb s.target 0)))) c
 
 abbrev pub capping : List ℕ → List ℕ → WalletState → ℕ
 capping h j = by_target 16 (λ k. room h j)

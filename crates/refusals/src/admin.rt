@@ -82,15 +82,11 @@ fn open_to(escrows: &[u64], len: usize, n: usize, id: u64) -> bool
     requires { (n * len ≤ length escrows.now) × (Limits.ESCROW_LEN ≤ len) }
     ensures { result ≡ open_to len escrows.now n id }
 {
-    let mut found = false;
-    for i in 0..n {
-        let to_it = opens_to(escrows, len, i, id);
-        found |= to_it;
-    }
-    found
+    (0..n).any(|i| opens_to(escrows, len, i, id))
 }
 
 // A close: checks 16, 43, 42, 40, in this order.
+#[tactic(auto, using(rules::proofs::Wallets::live_row, rows::proofs::Found::names_found))]
 pub fn close_refusal(
     edition: Edition,
     header: &[u64],

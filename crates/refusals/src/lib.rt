@@ -18,6 +18,7 @@ use rules::tables::Tables;
 mod admin;
 
 // Checks 12 to 43, by the operation.
+#[tactic(auto, using(crate::proofs::Given::given))]
 fn operation_refusal(ledger: Tables<'_>, s: Submission) -> Result<(), Refusal>
     requires { Checkable (ledger_in ledger) s }
     ensures { numbered result ≡ first (operation_refusals (ledger_in ledger.entry) s) }
@@ -30,8 +31,7 @@ fn operation_refusal(ledger: Tables<'_>, s: Submission) -> Result<(), Refusal>
         receipts,
         journal,
     } = ledger;
-    let op = s.op;
-    match op {
+    match s.op {
         GRANT => payments::grant_refusal(header, wallets, journal, s),
         TRANSFER | OPEN => payments::paying_refusal(edition, header, wallets, escrows, journal, s),
         RELEASE | REFUND => holds::closing_refusal(edition, header, escrows, journal, s),
@@ -47,6 +47,7 @@ fn operation_refusal(ledger: Tables<'_>, s: Submission) -> Result<(), Refusal>
 }
 
 // Checks 4 to 43: those of the envelope, and if none of them holds, those of the operation.
+#[tactic(auto, using(crate::proofs::Given::given))]
 pub fn refusal(ledger: Tables<'_>, s: Submission) -> Result<(), Refusal>
     requires { Checkable (ledger_in ledger) s }
     ensures { numbered result ≡ first (later_refusals (ledger_in ledger.entry) s) }

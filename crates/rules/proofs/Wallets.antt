@@ -6,6 +6,7 @@ use Prim.Native.Nat.{ℕ, ◌+◌}
 use lib.Dec.{ltb}
 use Rattle.rules.specs.Ledger.{row_of}
 use Rattle.rules.specs.Wallets.{numbered, closed_at, look_up}
+use Rattle.rules.specs.declared.WalletNumber.{WalletNumber}
 use Rattle.rules.specs.declared.WalletState.{WalletState}
 use Rattle.rules.specs.declared.WalletState.TheVariants.{Missing, Live, Closed}
 use Rattle.rules.proofs.Bools.{cond_case}
@@ -28,3 +29,7 @@ Says w n id (Closed k) = (ltb (row_of w n id) n ≡ true) × (closed_at w (row_o
 
 pub look_says : (w : List ℕ) (n id : ℕ) (x : WalletState) → x ≡ look_up w n id → Says w n id x
 look_says w n id x e = subst (Says w n id) (sym e) (look_case (Says w n id) w n id (λ m. m) (λ t o. (t, o, refl)) (λ t o. (t, o, refl)))
+
+-- of a live wallet, by its number
+pub live_row : (w : List ℕ) (n id : ℕ) (k : WalletNumber) → Live k ≡ look_up w n id → k.0 ≡ row_of w n id + 1
+live_row w n id k e = (look_says w n id (Live k) e).2

@@ -9,7 +9,7 @@ ghost use Rattle.rules.specs.Wallets.{standing_of};
 
 use crate::limits::{
     ALL_AGREE, ANSWERS, BAD_TABLE, CUT_SHORT, DISAGREES, ESCROW_LEN, FIRST_EDITION, HEADER_LEN,
-    LAST_ANSWER, MALFORMED_RECORD, NOT_REPLAYED, WALLET_CLOSED, WALLET_LIVE, WALLET_MISSING,
+    MALFORMED_RECORD, NOT_REPLAYED, WALLET_CLOSED, WALLET_LIVE, WALLET_MISSING,
 };
 use crate::refusal::Refusal;
 
@@ -243,20 +243,12 @@ impl From<WalletState> for Standing {
     ghost from_gives = { λ state standing. standing ≡ standing_of state };
 
     fn from(state: WalletState) -> Standing {
-        match state {
-            WalletState::Missing => Standing {
-                state: WALLET_MISSING,
-                number: 0,
-            },
-            WalletState::Live(wallet) => Standing {
-                state: WALLET_LIVE,
-                number: wallet.0,
-            },
-            WalletState::Closed(wallet) => Standing {
-                state: WALLET_CLOSED,
-                number: wallet.0,
-            },
-        }
+        let (state, number) = match state {
+            WalletState::Missing => (WALLET_MISSING, 0),
+            WalletState::Live(wallet) => (WALLET_LIVE, wallet.0),
+            WalletState::Closed(wallet) => (WALLET_CLOSED, wallet.0),
+        };
+        Standing { state, number }
     }
 }
 
@@ -270,9 +262,5 @@ const STATUSES: [u64; ANSWERS] = [
 pub fn status(number: u64) -> u64
     ensures { result ≡ status_of number }
 {
-    if number <= LAST_ANSWER {
-        STATUSES[number as usize]
-    } else {
-        500
-    }
+    STATUSES.get(number as usize).copied().unwrap_or(500)
 }

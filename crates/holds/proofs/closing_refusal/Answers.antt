@@ -1,15 +1,17 @@
 -- `holds::closing_refusal` meets its contract.
-use mathlib.Core.Path.{◌∙◌}
+use mathlib.Core.Path.{sym, ◌∙◌}
 use Rattle.rules.proofs.Numbers.{numbered_first}
-use Rattle.holds.proofs.Closing.{closing_by}
+use Rattle.holds.proofs.Closing.{closing_absent, closing_by}
 use Rattle.holds.proofs.closing_refusal.Goals as goal
+
+pub returns-then-not-written : goal.returns-then-not-written
+returns-then-not-written c = λ K. closing_absent _ _ c.requires.2 (sym c.written.ensures.is ∙ c.if-not-written.true)
 
 pub returns : goal.returns
 returns c =
     λ K. numbered_first _ c.first_of.ensures
-    ∙ closing_by _ _ K.wallets _ K.receipts _ _ _ _ _ _
-    c.requires.2
-    c.named.ensures.is
+    ∙ closing_by _ _ K.wallets _ K.receipts _ _ _ _ _
+    c.requires.2 (sym c.written.ensures.is ∙ c.if-not-written.false)
     c.escrow-from.ensures
     c.escrow-deadline.ensures
     c.escrow-state.ensures

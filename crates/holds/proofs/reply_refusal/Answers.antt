@@ -1,15 +1,17 @@
 -- `holds::reply_refusal` meets its contract.
-use mathlib.Core.Path.{◌∙◌}
+use mathlib.Core.Path.{sym, ◌∙◌}
 use Rattle.rules.proofs.Numbers.{numbered_first}
-use Rattle.holds.proofs.Reply.{reply_by}
+use Rattle.holds.proofs.Reply.{reply_absent, reply_by}
 use Rattle.holds.proofs.reply_refusal.Goals as goal
+
+pub returns-then-not-written : goal.returns-then-not-written
+returns-then-not-written c = λ K. reply_absent _ _ c.requires.2 (sym c.written.ensures.is ∙ c.if-not-written.true)
 
 pub returns : goal.returns
 returns c =
     λ K. numbered_first _ c.first_of.ensures
-    ∙ reply_by K.edition _ K.wallets K.escrows _ _ _ _ _ _ _
-    c.requires.2
-    c.named.ensures.is
+    ∙ reply_by K.edition _ K.wallets K.escrows _ _ _ _ _ _
+    c.requires.2 (sym c.written.ensures.is ∙ c.if-not-written.false)
     c.receipt-requester.ensures
     c.receipt-deadline.ensures
     c.receipt-state.ensures

@@ -1,19 +1,14 @@
 -- `payments::paying_refusal` meets its contract: each arm is told what was found of the sender.
-use mathlib.Core.Path.{◌≡◌, refl, ap, ◌∙◌}
+use mathlib.Core.Path.{refl, ap, ◌∙◌}
 use mathlib.Core.Bool.{◌||◌}
-use Prim.Native.Nat.{ℕ, ◌+◌}
+use Prim.Native.Nat.{ℕ}
 use lib.Dec.{eqb}
-use lib.ListN.{get_or}
-use Rattle.rules.specs.Limits.{WALLETS}
-use Rattle.rules.specs.Ledger.{Ledger, row_of, ledger_of}
+use Rattle.rules.specs.Ledger.{Ledger, ledger_of}
 use Rattle.rules.specs.Refusals.{first}
 use Rattle.rules.specs.declared.WalletState.{WalletState}
 use Rattle.rules.proofs.Numbers.{numbered_first, refused, passed}
-use Rattle.rules.proofs.Wallets.{look_says}
-use Rattle.rows.proofs.Found.{names_found}
 use Rattle.payments.specs.Sending.{sending_refusals}
 use Rattle.payments.proofs.Paying.{by_sender, paying_by}
-use borrow.Author.Rules.{rules}
 use Rattle.payments.proofs.paying_refusal.Goals as goal
 use Rattle.payments.proofs.paying_refusal.Goals.{After-find_wallet, In-Live}
 
@@ -26,18 +21,6 @@ rest c K =
 -- what an arm answers, by what was found
 abbrev by : (c : After-find_wallet) → Ledger → WalletState → ℕ
 by c K = by_sender c.args.wallets.now (eqb c.args.s.target 0 || eqb c.args.s.target c.args.s.signer) (rest c K)
-
--- a live sender's number
-sends : (c : In-Live) → c.in-Live.sender.0 ≡ row_of c.args.wallets.now (get_or c.args.header.now WALLETS 0) c.args.s.signer + 1
-sends c = (look_says _ _ _ _ c.in-Live.ensures).2
-
-pub wallet-sender_frozen-requires : goal.wallet-sender_frozen-requires
-wallet-sender_frozen-requires c = (names_found _ _ _ _ c.requires.1 (sends c), search rules)
-
-pub sending_refusal-requires : goal.sending_refusal-requires
-sending_refusal-requires c =
-    let pre = c.requires in
-    (pre.0, pre.1, pre.2, pre.3, pre.4, pre.6, sends (goal.at.sending_refusal-requires c).In-Live)
 
 pub returns-in_err-first_of : goal.returns-in_err-first_of
 returns-in_err-first_of c =

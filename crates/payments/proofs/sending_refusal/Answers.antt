@@ -1,13 +1,9 @@
 -- `payments::sending_refusal` meets its contract: each arm is told what was found of the recipient.
 use mathlib.Core.Path.{ap, ◌∙◌}
 use Prim.Native.Nat.{◌-◌}
-use native.Mathlib.Omega.{arith}
 use Rattle.rules.proofs.Numbers.{numbered_first}
-use Rattle.rows.specs.Numbered.{Names}
-use Rattle.rows.proofs.Found.{names_found}
 use Rattle.payments.proofs.Recipient.{by_recipient}
 use Rattle.payments.proofs.Paying.{limits, sending_by}
-use borrow.Author.Rules.{rules}
 use Rattle.payments.proofs.sending_refusal.Goals as goal
 use Rattle.payments.proofs.sending_refusal.Goals.{in-Missing, in-Live}
 
@@ -16,21 +12,6 @@ returns-in-Closed c =
     let start = c.args in
     let checks = limits start.edition start.header.now start.wallets.now start.escrows.now start.journal.now start.s (start.sender.0 - 1) in
     λ K. sending_by _ _ _ _ K.receipts _ _ _ _ c.requires.6 (ap (by_recipient checks) c.in-Closed.ensures)
-
-pub wallet-balance-requires : goal.wallet-balance-requires
-wallet-balance-requires c = (names_found _ _ _ _ c.requires.1 c.requires.6, search rules)
-
-pub wallet-tx_cap-requires : goal.wallet-tx_cap-requires
-wallet-tx_cap-requires c = (names_found _ _ _ _ c.requires.1 c.requires.6, search rules)
-
-pub wallet-daily_cap-requires : goal.wallet-daily_cap-requires
-wallet-daily_cap-requires c = (names_found _ _ _ _ c.requires.1 c.requires.6, search rules)
-
-pub overflow_add-deadline_exceeds_max : goal.overflow_add-deadline_exceeds_max
-overflow_add-deadline_exceeds_max c = omega (arith, c.requires.4)
-
-pub nonzero_div-escrow_table_full : goal.nonzero_div-escrow_table_full
-nonzero_div-escrow_table_full c = omega (arith, c.requires.5.escrow)
 
 pub returns : goal.returns
 returns c =

@@ -1,17 +1,10 @@
 -- `refusal` meets its contract: the envelope's refusal, or if there is none the operation's.
-use mathlib.Core.List.{[]}
 use mathlib.Core.Path.{◌∙◌}
-use Rattle.rules.specs.Ledger.{ledger_of}
 use Rattle.rules.specs.Moments.{ledger_in}
 use Rattle.rules.specs.Refusals.{envelope_refusals, operation_refusals}
 use Rattle.rules.proofs.Numbers.{refused_by, passed_by}
-use Rattle.refusals.proofs.Given.{header_there, journal_fit, op_low, op_high, now_time, issued_time}
 use Rattle.refusals.proofs.Order.{envelope_numbered}
 use Rattle.refusals.proofs.refusal.Goals as goal
-
-pub envelope_refusal-requires : goal.envelope_refusal-requires
-envelope_refusal-requires c =
-    (header_there c.requires, journal_fit c.requires, op_low c.requires, op_high c.requires, now_time c.requires, issued_time c.requires)
 
 pub returns-in_err-envelope_refusal : goal.returns-in_err-envelope_refusal
 returns-in_err-envelope_refusal c =

@@ -3,22 +3,13 @@ use mathlib.Core.Path.{ap, ◌∙◌}
 use Prim.Native.Nat.{ℕ}
 use Rattle.rules.specs.declared.WalletState.{WalletState}
 use Rattle.rules.proofs.Numbers.{numbered_first}
-use Rattle.rules.proofs.Wallets.{look_says}
-use Rattle.rows.proofs.Found.{names_found}
 use Rattle.refusals.proofs.Others.{closing, close_by}
-use borrow.Author.Rules.{rules}
 use Rattle.refusals.proofs.admin.close_refusal.Goals as goal
 use Rattle.refusals.proofs.admin.close_refusal.Goals.{After-find_wallet}
 
 -- what an arm answers, by what was found
 abbrev by : After-find_wallet → WalletState → ℕ
 by c = let start = c.args in closing start.edition start.header.now start.wallets.now start.escrows.now start.journal.now start.s
-
-pub wallet-balance-requires : goal.wallet-balance-requires
-wallet-balance-requires c = (names_found _ _ _ _ c.requires.1 (look_says _ _ _ _ c.in-Live.ensures).2, search rules)
-
-pub wallet-locked-requires : goal.wallet-locked-requires
-wallet-locked-requires c = (names_found _ _ _ _ c.requires.1 (look_says _ _ _ _ c.in-Live.ensures).2, search rules)
 
 pub returns-in-Missing : goal.returns-in-Missing
 returns-in-Missing c =

@@ -1,19 +1,15 @@
--- `admin::open_to` meets its contract: after i rows, one is found just if one of them is open and to the id.
-use mathlib.Core.Path.{◌≡◌}
+-- `admin::open_to` meets its contract: what the search over the rows found is what the definition says of them.
+use mathlib.Core.Path.{refl, ◌∙◌}
 use native.Mathlib.Omega.{arith}
-use Rattle.rules.proofs.Rows.{row_end}
-use Rattle.refusals.proofs.OpenTo.{open_none, open_next}
-use borrow.Author.Rules.{rules}
+use Rattle.std.proofs.Common.{rules, tests}
+use Rattle.std.proofs.lemmas.Iterator.{YieldsList-from_range}
+use Rattle.std.proofs.lemmas.Iterator.Search.{any_from_yields_List}
+use Rattle.refusals.proofs.OpenTo.{opens, open_any}
 use Rattle.refusals.proofs.admin.open_to.Goals as goal
 
-pub loop-i-init : goal.loop-i-init
-loop-i-init c = open_none _ _ _
-
-pub opens_to-to_it-requires : goal.opens_to-to_it-requires
-opens_to-to_it-requires c = (row_end c.args.len c.args.n c.loop-i.i c.args.escrows.now c.requires.0 (search rules), c.requires.1)
-
-pub loop-i-preserved : goal.loop-i-preserved
-loop-i-preserved c = open_next _ _ _ _ _ c.loop-i.invariant _ c.opens_to-to_it.ensures
-
 pub returns : goal.returns
-returns c = let e : c.args.n ≡ c.loop-i.i = omega arith in rw e c.loop-i.invariant
+returns c =
+    let start = c.args in
+    any_from_yields_List (opens start.len start.escrows.now start.id) _ _ _ c.any.ensures.ran (YieldsList-from_range 0 start.n start.n refl (omega arith))
+    (λ x b q k. search (rules, tests))
+    ∙ open_any start.len start.escrows.now start.n start.id
