@@ -94,7 +94,7 @@ pub fn count_entry(
     let before = *figures;
     let count = grid::count(grid, row, column);
     if let Some(past) = grid::passing(before, adds, count) {
-        *named = [past.number(), row as u64, answer];
+        *named = [u64::from(past), row as u64, answer];
         return grid;
     }
     *figures = grid::summed(before, adds);

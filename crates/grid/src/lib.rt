@@ -20,12 +20,12 @@ pub enum Named {
     Cell = 6,
 }
 
-impl Named {
-    // The paper's number.
-    pub fn number(self) -> u64
-        ensures { result ≡ number_of self }
-    {
-        self as u64
+// The paper's number.
+impl From<Named> for u64 {
+    ghost from_gives = { λ named number. number ≡ number_of named };
+
+    fn from(named: Named) -> u64 {
+        named as u64
     }
 }
 

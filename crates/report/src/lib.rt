@@ -13,8 +13,9 @@ ghost use Rattle.rules.specs.Sound.{Ready};
 ghost use Rattle.rules.specs.Submit.{submit};
 
 use rules::limits::{
-    ANSWERS, BAD_TABLE, ENTRY_BYTES, FIGURES, GRID_ROWS, NAMED, NAMED_FIGURE, RECORD_BYTES,
+    ANSWERS, ENTRY_BYTES, FIGURES, GRID_ROWS, NAMED, NAMED_FIGURE, RECORD_BYTES,
 };
+use rules::refusal::Refusal;
 use rules::tables::Tables;
 use rules::{Edition, FIRST, Told};
 
@@ -102,7 +103,7 @@ fn report_afresh(
         return (
             grid,
             Told {
-                number: BAD_TABLE,
+                number: u64::from(Refusal::BadTable),
                 entries: 0,
             },
         );

@@ -21,8 +21,8 @@ use Rattle.rules.proofs.StandingFromWalletState.from.Kinds as standing_kinds
 use Rattle.rules.proofs.StandingFromWalletState.from.Reads as standing_reads
 use Rattle.rules.proofs.VerdictFromFound.from.Kinds as verdict_kinds
 use Rattle.rules.proofs.VerdictFromFound.from.Reads as verdict_reads
-use Rattle.rules.proofs.refusal.Refusal.number.Kinds as refusal_kinds
-use Rattle.rules.proofs.refusal.Refusal.number.Reads as refusal_reads
+use Rattle.rules.proofs.refusal.U64FromRefusal.from.Kinds as refusal_kinds
+use Rattle.rules.proofs.refusal.U64FromRefusal.from.Reads as refusal_reads
 use Rattle.rules.proofs.operation.OperationTryFromU8.try_from.Kinds as operation_kinds
 use Rattle.rules.proofs.operation.OperationTryFromU8.try_from.Reads as operation_reads
 use Rattle.rules.proofs.refusal.number.Kinds as number_kinds

@@ -8,8 +8,8 @@ ghost use Rattle.rules.specs.Status.{status_of};
 ghost use Rattle.rules.specs.Wallets.{standing_of};
 
 use crate::limits::{
-    ALL_AGREE, ANSWERS, BAD_TABLE, CUT_SHORT, DISAGREES, ESCROW_LEN, FIRST_EDITION, HEADER_LEN,
-    LAST_ANSWER, MALFORMED_RECORD, NOT_REPLAYED, WALLET_CLOSED, WALLET_LIVE, WALLET_MISSING,
+    ALL_AGREE, ANSWERS, CUT_SHORT, DISAGREES, ESCROW_LEN, FIRST_EDITION, HEADER_LEN, LAST_ANSWER,
+    NOT_REPLAYED, WALLET_CLOSED, WALLET_LIVE, WALLET_MISSING,
 };
 use crate::refusal::Refusal;
 
@@ -86,7 +86,7 @@ impl From<Option<Submission>> for Read {
                 submission,
             },
             None => Read {
-                number: MALFORMED_RECORD,
+                number: u64::from(Refusal::MalformedRecord),
                 submission: NOTHING,
             },
         }
@@ -115,7 +115,7 @@ impl From<Result<u64, Refusal>> for Answer {
         match outcome {
             Ok(word) => Answer { number: 0, word },
             Err(refusal) => Answer {
-                number: refusal.number(),
+                number: u64::from(refusal),
                 word: 0,
             },
         }
@@ -154,7 +154,7 @@ impl From<Found> for Verdict {
         let none = Answer { number: 0, word: 0 };
         match found {
             Found::WrongLength => Verdict {
-                number: BAD_TABLE,
+                number: u64::from(Refusal::BadTable),
                 finding: NOT_REPLAYED,
                 replayed: 0,
                 recorded: none,

@@ -1,5 +1,7 @@
 // The numbers of document 01 by name, as specs/Limits.antt has them. Credits are micro-credits and times milliseconds.
 
+use crate::operation::Operation;
+
 // Row lengths in words, and the most rows.
 pub const WALLET_LEN: usize = 6;
 
@@ -168,28 +170,28 @@ pub const ANSWER_WORD: usize = 6;
 pub const ENTRY_LINK: usize = 7;
 
 // Operations.
-pub const GRANT: u8 = 1;
+pub const GRANT: u8 = Operation::Grant as u8;
 
-pub const TRANSFER: u8 = 2;
+pub const TRANSFER: u8 = Operation::Transfer as u8;
 
-pub const OPEN: u8 = 3;
+pub const OPEN: u8 = Operation::Open as u8;
 
-pub const RELEASE: u8 = 4;
+pub const RELEASE: u8 = Operation::Release as u8;
 
-pub const REFUND: u8 = 5;
+pub const REFUND: u8 = Operation::Refund as u8;
 
-pub const CLAIM: u8 = 6;
+pub const CLAIM: u8 = Operation::Claim as u8;
 
 // An accept or a dispute, by bit 2.
-pub const REPLY: u8 = 7;
+pub const REPLY: u8 = Operation::Reply as u8;
 
-pub const SWEEP: u8 = 9;
+pub const SWEEP: u8 = Operation::Sweep as u8;
 
-pub const FREEZE: u8 = 10;
+pub const FREEZE: u8 = Operation::Freeze as u8;
 
-pub const CAPS: u8 = 11;
+pub const CAPS: u8 = Operation::Caps as u8;
 
-pub const CLOSE: u8 = 12;
+pub const CLOSE: u8 = Operation::Close as u8;
 
 // What 7 and 8 are in the old form; today there is no operation 8.
 pub const OLD_ACCEPT: u8 = 7;
@@ -242,11 +244,6 @@ pub const RELEASE_IMPOSSIBLE: u64 = 29;
 
 // The first edition's number, the header's first word.
 pub const FIRST_EDITION: u64 = 1;
-
-// The answers that a struct of numbers gives by itself; all are the numbers of `Refusal`.
-pub const BAD_TABLE: u64 = 1;
-
-pub const MALFORMED_RECORD: u64 = 3;
 
 // The largest number that a figure of the month's report can have.
 pub const LAST_FIGURE: u64 = 18446744073709551615;

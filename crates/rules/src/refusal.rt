@@ -49,12 +49,12 @@ pub enum Refusal {
     WalletClosed = 43,
 }
 
-impl Refusal {
-    // The paper's number.
-    pub fn number(self) -> u64
-        ensures { result ≡ number_of self }
-    {
-        self as u64
+// The paper's number.
+impl From<Refusal> for u64 {
+    ghost from_gives = { λ refusal number. number ≡ number_of refusal };
+
+    fn from(refusal: Refusal) -> u64 {
+        refusal as u64
     }
 }
 
@@ -64,7 +64,7 @@ pub fn number(answer: Result<(), Refusal>) -> u64
 {
     match answer {
         Ok(()) => 0,
-        Err(refusal) => refusal.number(),
+        Err(refusal) => u64::from(refusal),
     }
 }
 
