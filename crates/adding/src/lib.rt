@@ -81,7 +81,8 @@ fn auto_accepted(
     0
 }
 
-// One receipt of a sweep that may still close a row: what it releases, if it is due.
+// One receipt of a sweep that may still close a row: what it releases, if it is due. Of an escrow the like is another sum, of what expires, with no
+// marks.
 fn receipt_turn(
     edition: Edition,
     escrows: &[u64],
@@ -167,7 +168,7 @@ fn escrow_turns(edition: Edition, header: &[u64], escrows: &[u64], time: u64, li
     amount
 }
 
-// What a sweep adds: what its receipts release, and what expires with the room that they leave.
+// What a sweep adds: what its receipts release, and what expires with the room that they leave. The marks are a fixed array: nothing is allocated.
 fn sweep_adds(
     edition: Edition,
     header: &[u64],

@@ -1,5 +1,5 @@
 // The ledger's public calls over the five lent tables: header, wallets, escrows, receipts, journal. Each is the call of `editions`, or for a lookup
-// of `looking`, at the first edition, and asks nothing of its caller.
+// of `looking`, at the first edition, and asks nothing of its caller. Each is lent the five slices that the paper names.
 #![tactic(auto)]
 
 ghost use Rattle.std.specs.Prelude.{◌≡◌};

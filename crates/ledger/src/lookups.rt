@@ -6,7 +6,7 @@ ghost use Rattle.rows.specs.Part.{placed};
 
 use rules::{EscrowNumber, FIRST, ReceiptNumber, WalletState};
 
-// Where an escrow's row starts in the table, in words; the table's length where it is not written.
+// Where an escrow's row starts in the table, in words; the table's length where it is not written, as C is told it.
 pub fn escrow_place(header: &[u64], escrows: &[u64], n: EscrowNumber) -> usize
     ensures { result ≡ escrow_place first_edition header.now escrows.now n.0 }
 {

@@ -12,7 +12,8 @@ use rules::limits::{
 };
 use rules::{Edition, EscrowNumber, ReceiptNumber, WalletState};
 
-// Where an escrow's row starts in the table, in words; the table's length where it is not written: an `Option` does not cross `extern "C"`.
+// Where an escrow's row starts in the table, in words; the table's length where it is not written, as `escrow_place` of
+// Lookup.antt has it and as C is told it.
 pub fn escrow_place(edition: Edition, header: &[u64], escrows: &[u64], n: EscrowNumber) -> usize
     requires { Sized edition }
     ensures { result ≡ escrow_place edition header.now escrows.now n.0 }

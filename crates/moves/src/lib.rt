@@ -115,8 +115,8 @@ fn payee(
     }
 }
 
-// State, closed at and closing signer of an escrow. The state is the table's word: the definitions put any, and so does the contract. A receipt has
-// the like in columns of its own.
+// State, closed at and closing signer of an escrow. The state is the table's word: the definitions put any, and so do this, `end_escrow` and
+// `close_receipt`. A receipt has the like in columns of its own, and its rows have one length in every edition.
 fn close_escrow(
     edition: Edition,
     escrows: &mut [u64],

@@ -74,7 +74,8 @@ pub fn open_escrow(
     )
 }
 
-// Release and refund end the escrow that the target names, in the state that is given: release pays the recipient, refund the sender.
+// Release and refund end the escrow that the target names, in the state that is given, a word of the table: release pays the
+// recipient, refund the sender.
 pub fn close_escrow(
     edition: Edition,
     header: &[u64],

@@ -1,5 +1,6 @@
 // A recording replayed: each entry is submitted in turn and its recorded answer compared, up to the first that disagrees. What holds for every
-// edition is written and proved once; the public calls are those of each edition that there is, and ask nothing.
+// edition is written and proved once; the public calls are those of each edition that there is, and ask nothing. All are lent the five slices
+// that the paper names.
 #![tactic(auto)]
 
 ghost use Rattle.std.specs.Prelude.{◌≡◌, ◌+◌, ◌≤◌, get_or, length};

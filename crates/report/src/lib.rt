@@ -1,4 +1,4 @@
-// The month's report: a recording is replayed on a fresh ledger, one cell of the grid is raised for each entry read, and what the entry adds is added
+// The month's report, over the five slices that the paper names: a recording is replayed on a fresh ledger, one cell of the grid is raised for each entry read, and what the entry adds is added
 // to the figures. What is counted is the core's own answer. An entry that would bring a figure or its cell past 2^64 - 1 is neither counted nor
 // applied: so each entry is decided first, then what it will add is worked out, and only then is it settled. Grid, figures and what is named stand
 // beside each other: the paper names the grid as an array of arrays by value, and C lends the other two.

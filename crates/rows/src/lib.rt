@@ -1,4 +1,5 @@
-// Words and rows of a lent table. A row is counted from 0 here; its number is one more.
+// Words and rows of a lent table. A row is counted from 0 here; its number is one more. A table is lent whole, and how many of its rows are written
+// is a word of the header: so functions take a table and a count, and no shorter slice.
 #![tactic(auto)]
 
 ghost use Rattle.std.specs.Prelude.{◌≡◌, cond, ◌*◌, ◌<◌, ◌≤◌, ◌^◌, length, get_or};
@@ -98,7 +99,8 @@ pub fn count_right(
     (header.len() == header_len) & (right & (at(header, c) <= (t.len() / len) as u64))
 }
 
-// Where a row starts in its table, in words, by its number; the table's length where there is no such row, as C is told it.
+// Where a row starts in its table, in words, by its number; the table's length where there is no such row, as `row_place` of
+// Lookup.antt has it and as C is told it.
 pub fn row_place(
     header: &[u64],
     t: &[u64],

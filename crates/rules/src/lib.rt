@@ -48,7 +48,7 @@ pub enum Form {
     Today,
 }
 
-// What reading a record finds, for C: 0 and its fields, or 3 and zeros.
+// What reading a record finds, as `milebeacon_read` answers it: 0 and its fields, or 3 and zeros.
 #[repr(C)]
 #[derive(Clone, Copy)]
 pub struct Read {
@@ -93,7 +93,7 @@ impl From<Option<Submission>> for Read {
     }
 }
 
-// The answer to a submission, in numbers: for C, and as a recording has it.
+// The answer to a submission, in numbers: as `milebeacon_submit` answers it, and as a recording has it.
 #[repr(C)]
 #[derive(Clone, Copy, PartialEq, Eq, Debug)]
 pub struct Answer {
@@ -135,7 +135,7 @@ pub enum Found {
     Disagrees(u64, Answer, Answer),
 }
 
-// The same as numbers, for C: the answer's, the finding's, how many entries were replayed, and both answers to the last of these if it disagrees.
+// The same as numbers, as `milebeacon_replay` answers it: the answer's, the finding's, how many entries were replayed, and both answers to the last of these if it disagrees.
 #[repr(C)]
 #[derive(Clone, Copy)]
 pub struct Verdict {
@@ -185,7 +185,8 @@ impl From<Found> for Verdict {
     }
 }
 
-// What adding a recording to the month's report came to, in numbers for C: the answer, and how many entries were read.
+// What adding a recording to the month's report came to, in numbers, as `milebeacon_report` answers it: the answer, and how many
+// entries were read.
 #[repr(C)]
 #[derive(Clone, Copy)]
 pub struct Told {
@@ -193,8 +194,8 @@ pub struct Told {
     pub entries: u64,
 }
 
-// What an edition fixes: its number, and the words of a header and of an escrow row. The type asks for no lengths: the lookups and every theorem take
-// any edition, and whoever needs `Sized` says so.
+// What an edition fixes: its number, and the words of a header and of an escrow row. The type asks for no lengths: `looking::wallet_row`, `receipt_place`
+// and `receipt_row` and the theorems of Promises.antt take any edition, and whoever needs `Sized` says so.
 #[derive(Clone, Copy)]
 pub struct Edition {
     pub number: u64,
@@ -209,8 +210,8 @@ pub const FIRST: Edition = Edition {
     escrow: ESCROW_LEN,
 };
 
-// The number of a row, counted from 1; 0 is no row. They are types of their own, so that none is taken for another. The types hold any word, since
-// a host may pass any; whoever reads a row asks that the number `Names` one.
+// The number of a row, counted from 1; 0 is no row. They are types of their own, so that none is taken for another. The paper names the three; the types
+// hold any word, since a host may pass any (`milebeacon_escrow_place`), and whoever reads a row asks that the number `Names` one.
 #[repr(C)]
 #[derive(Clone, Copy)]
 pub struct WalletNumber(pub u64);
@@ -234,7 +235,7 @@ pub enum WalletState {
     Closed(WalletNumber),
 }
 
-// The same as numbers, for C: which of the three, and the number of its row, or 0.
+// The same as numbers, as `milebeacon_wallet_row` answers it: which of the three, and the number of its row, or 0.
 #[repr(C)]
 #[derive(Clone, Copy)]
 pub struct Standing {

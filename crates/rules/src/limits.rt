@@ -201,7 +201,7 @@ pub const OLD_DISPUTE: u8 = 8;
 // The last of them. The month's report has row 0 and a row for every operation: a later operation widens it here.
 pub const LAST_OPERATION: u8 = CLOSE;
 
-// `as`: `From` is no constant's.
+// By `as`: `From` is no constant's, and between u64 and usize there is none.
 pub const GRID_ROWS: usize = LAST_OPERATION as usize + 1;
 
 // The last answer, and how many there are: the statuses, and the report's columns. A later answer widens both here.

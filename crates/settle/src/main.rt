@@ -21,7 +21,7 @@ const JOURNAL_WORDS: usize = 512 * JOURNAL_LEN;
 
 // The program's ledger. Its memory is fixed, and nothing is allocated.
 #[derive(Drop)]
-struct Tables {
+struct OwnTables {
     header: [u64; HEADER_LEN],
     wallets: [u64; WALLET_WORDS],
     escrows: [u64; ESCROW_WORDS],
@@ -29,7 +29,7 @@ struct Tables {
     journal: [u64; JOURNAL_WORDS],
 }
 
-impl Tables {
+impl OwnTables {
     fn start(&mut self) {
         // the lengths are right, so nothing is refused
         let _ = ledger::fresh(
@@ -53,11 +53,13 @@ impl Tables {
     }
 }
 
+// The program prints no answer elsewhere, so the two numbers are written here.
 fn line(rt: &impl Print, ordinal: u64, answer: Answer) -> io::Result<()> {
     println!(rt; "{ordinal} {} {}", answer.number, answer.word)
 }
 
-// Reads until the buffer is full or the input ends, and says how many bytes it has read. A read that was interrupted is tried again.
+// Reads until the buffer is full or the input ends, and says how many bytes it has read. A read that was interrupted is tried again. The turns are
+// counted, so that the loop is seen to end; the buffer is of fixed length, and nothing is allocated.
 fn read_full(input: &mut impl Read, buffer: &mut [u8; RECORD_BYTES]) -> io::Result<usize>
     ensures { IfOk result (λ n. n ≤ 108) }
 {
@@ -82,7 +84,7 @@ fn step(
     rt: &impl Print,
     input: &mut impl Read,
     ordinal: u64,
-    tables: &mut Tables,
+    tables: &mut OwnTables,
 ) -> io::Result<bool> {
     let mut buffer = [0u8; RECORD_BYTES];
     let n = read_full(input, &mut buffer)?;
@@ -94,7 +96,7 @@ fn step(
 }
 
 // Every record of the input. The ordinal counts the turns, so that the loop is seen to end.
-fn run(rt: &(impl Print + Input), tables: &mut Tables) -> io::Result<()> {
+fn run(rt: &(impl Print + Input), tables: &mut OwnTables) -> io::Result<()> {
     let mut input = rt.reader();
     for ordinal in 1..u64::MAX {
         if !step(rt, &mut input, ordinal, tables)? {
@@ -105,7 +107,7 @@ fn run(rt: &(impl Print + Input), tables: &mut Tables) -> io::Result<()> {
 }
 
 fn main(rt: HostRuntime) -> io::Result<()> {
-    let mut tables = Tables {
+    let mut tables = OwnTables {
         header: [0; HEADER_LEN],
         wallets: [0; WALLET_WORDS],
         escrows: [0; ESCROW_WORDS],

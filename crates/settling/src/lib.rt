@@ -74,7 +74,7 @@ fn enter(header: &mut [u64], journal: &mut [u64], s: Submission, word: u64)
     );
 }
 
-// Settles a submission that nothing refuses; the answer's word.
+// Settles a submission that nothing refuses; the answer's word. It is lent the five slices that the paper names.
 pub fn settle(
     edition: Edition,
     header: &mut [u64],
