@@ -34,8 +34,8 @@ count-count-requires c = let f = found (goal.at.count-count-requires c).After-pl
 
 pub returns-in-Some : goal.returns-in-Some
 returns-in-Some c =
-    stops_here (found (goal.at.returns-in-Some c).After-planned-adds) _ _ _ c.count-count.ensures (c.number.ensures ∙ c.in-Some.ensures)
-    (named_so c.in-Some.past c.number.ensures)
+    stops_here (found (goal.at.returns-in-Some c).After-planned-adds) _ _ _ c.count-count.ensures (c.from.ensures ∙ c.in-Some.ensures)
+    (named_so c.in-Some.past c.from.ensures)
 
 pub summed-requires : goal.summed-requires
 summed-requires c =
