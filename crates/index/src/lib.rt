@@ -62,6 +62,7 @@ struct Seat {
 }
 
 // The seat of the id x, where the index has n wallets; none where the walk meets the id, or has no steps left.
+// The walk is written three times: this one wants the free place, `near` ends where it meets the id, and `far` has no branch.
 fn seat_for(ids: &[u64; NUMBERS], t: &[u16; PLACES], n: usize, x: u64) -> Option<Seat>
     requires { (n ≤ Limits.MAX_WALLETS) × Within n t.now }
     ensures { IfSome result (λ seat. Seated ids.now t.now x seat.place) }
@@ -102,7 +103,8 @@ pub fn fill(ids: &[u64; NUMBERS], t: &mut [u16; PLACES], n: usize) -> Option<usi
     Some(most)
 }
 
-// The number at the root of an id whose bits are y, and the one at a branch of wallet s by the bits y that are left; 0 for none.
+// The number at the root of an id whose bits are y, and the one at a branch of wallet s by the bits y that are left; 0 for none,
+// which is a place of `ids` like any other, so that the walk has no branch for it.
 fn root(t: &[u16; PLACES], n: usize, y: usize) -> usize
     requires { Within n t.now }
     ensures { result ≤ n }
@@ -124,7 +126,7 @@ fn number(s: usize) -> Option<WalletNumber>
     (s != 0).then_some(WalletNumber(s as u64))
 }
 
-// What the index proposes for the id x, by the first steps of its walk.
+// What the index proposes for the id x, by the first steps of its walk, which ends where it meets the id.
 fn near(ids: &[u64; NUMBERS], t: &[u16; PLACES], n: usize, x: u64) -> Option<WalletNumber>
     requires { (n ≤ Limits.MAX_WALLETS) × Within n t.now }
     ensures { IfSome result (λ number. Hit ids.now n x number.0) }

@@ -82,6 +82,7 @@ pub fn parties_right(w: &[u64], n: usize, e: &[u64], len: usize, m: usize) -> bo
     requires { Tables len w.now n e.now m }
     ensures { result ≡ parties_right len w.now n e.now m }
 {
+    // `ids`, `t` and `sums` have lengths that are fixed: nothing is allocated
     let mut ids = [0u64; NUMBERS];
     index::copy_ids(w, n, &mut ids);
     let mut t = [0u16; PLACES];

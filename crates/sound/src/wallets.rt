@@ -15,6 +15,7 @@ fn wallet_right(w: &[u64], i: usize) -> bool
     (w[i * WALLET_LEN + ID] != 0) & (w[i * WALLET_LEN + FROZEN] <= IS_CLOSED)
 }
 
+// A table is lent whole, and the header counts its written rows, so a function takes both.
 pub fn wallets_right(w: &[u64], n: usize) -> bool
     requires { n * Limits.WALLET_LEN ≤ length w.now }
     ensures { result ≡ every n (λ i. all (wallet_tests (wallets_in w.now n) i)) }
@@ -32,16 +33,13 @@ pub fn total_right(w: &[u64], n: usize, granted: u64) -> bool
     }
     let mut left = granted;
     for i in 0..n {
-        let balance = w[i * WALLET_LEN + BALANCE];
-        if left < balance {
+        let Some(rest) = left.checked_sub(w[i * WALLET_LEN + BALANCE]) else {
             return false;
-        }
-        left -= balance;
-        let locked = w[i * WALLET_LEN + LOCKED];
-        if left < locked {
+        };
+        let Some(rest) = rest.checked_sub(w[i * WALLET_LEN + LOCKED]) else {
             return false;
-        }
-        left -= locked;
+        };
+        left = rest;
     }
     left == 0
 }

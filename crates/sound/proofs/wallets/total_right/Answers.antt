@@ -8,11 +8,11 @@ use Rattle.sound.proofs.wallets.total_right.Goals as goal
 pub loop-i-init : goal.loop-i-init
 loop-i-init c = omega (arith, sum_none (both c.args.w.now))
 
-pub returns-then-left-balance : goal.returns-then-left-balance
-returns-then-left-balance c = credits_more _ _ _ c.loop-i.i c.loop-i-test.true (omega arith)
+pub returns-in_default : goal.returns-in_default
+returns-in_default c = credits_more _ _ _ c.loop-i.i c.loop-i-test.true (omega arith)
 
-pub returns-then-left-locked : goal.returns-then-left-locked
-returns-then-left-locked c = credits_more _ _ _ c.loop-i.i c.loop-i-test.true (omega arith)
+pub returns-in_default-checked_sub : goal.returns-in_default-checked_sub
+returns-in_default-checked_sub c = credits_more _ _ _ c.loop-i.i c.loop-i-test.true (omega arith)
 
 pub loop-i-preserved : goal.loop-i-preserved
 loop-i-preserved c = omega (arith, sum_step c.loop-i.i (both c.args.w.now))
