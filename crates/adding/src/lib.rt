@@ -199,6 +199,7 @@ pub fn adds(
     requires { Adds edition header.now escrows.now receipts.now s }
     ensures { (K : Ledger) → let L = any K of_edition edition seeing_header header seeing_escrows escrows seeing_receipts receipts in Settles L.entry s → result ≡ adds_of L.entry s (outcome 0 (settle s L.entry).word (settle s L.entry).after) }
 {
+    // no table of functions, as each arm is lent other tables
     match Operation::try_from(s.op) {
         Ok(Operation::Grant) => [s.amount, 0, 0, 0, 0],
         Ok(Operation::Transfer) => [0, s.amount, 0, 0, 0],

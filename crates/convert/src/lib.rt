@@ -34,10 +34,8 @@ fn convert_at(recording: &mut [u8], at: usize)
     requires { at + Limits.ENTRY_BYTES ≤ length recording.old }
     ensures { recording.new ≡ converted_at at recording.old }
 {
-    let old = match record::read_by(Form::Old, &recording[at..at + RECORD_BYTES]) {
-        Some(s) => s.op,
-        None => 0,
-    };
+    // 0 where nothing is read: the definitions read a malformed record as zeros
+    let old = record::read_by(Form::Old, &recording[at..at + RECORD_BYTES]).map_or(0, |s| s.op);
     let operation = new_operation(old);
     let flags = new_flags(old, recording[at + FLAGS_AT]);
     recording[at + OPERATION_AT] = operation;

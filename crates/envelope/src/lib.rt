@@ -1,4 +1,6 @@
 // Checks 4 to 11: the clock, the system, the envelope and its nonce.
+// A one-line test (a flag's bit, an operation's byte) is written out: it computes to the definition's own, where a call has to be cited.
+// The header is asked to have the words that are read, and no more (`ENTRIES < length header`), as a check needs no sound ledger.
 #![tactic(auto)]
 
 ghost use Rattle.std.specs.Prelude.{◌≡◌, ◌*◌, ◌≤◌, ◌<◌, get_or, length};

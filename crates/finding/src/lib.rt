@@ -18,7 +18,7 @@ pub struct Parties {
     pub target: WalletState,
 }
 
-// Whether an operation names the wallet of its signer, and that of its target.
+// Whether an operation names the wallet of its signer, and that of its target: by the byte, as the definition's lists have it.
 fn names_signer(op: u8) -> bool
     ensures { result ≡ one_of signs op }
 {

@@ -1,5 +1,7 @@
 // Checks 12 to 43 of the operations that bring credits to a wallet: grant, transfer and open. Each check is lent only the tables that it looks at,
 // and not the ledger in one piece: so its contract says that no other table decides it.
+// A one-line test (a full table) is written out: it computes to the definition's own, where a call has to be cited.
+// The header is asked to have the words that are read, and no more (`ENTRIES < length header`), as a check needs no sound ledger.
 #![tactic(auto)]
 
 ghost use Rattle.std.specs.Prelude.{◌≡◌, ◌⊎◌, ◌+◌, ◌*◌, ◌≤◌, ◌<◌, get_or, length};
@@ -8,7 +10,9 @@ ghost use Rattle.rules.specs.Ledger.{Ledger, Sized, row_of};
 ghost use Rattle.rules.specs.Moments.{any, ◌of_edition◌, ◌seeing_header◌, ◌seeing_wallets◌, ◌seeing_escrows◌, ◌seeing_journal◌};
 ghost use Rattle.rules.specs.Numbers.{as_number};
 ghost use Rattle.rules.specs.Refusals.{first, operation_refusals};
+ghost use Rattle.rules.specs.Wallets.{look_up};
 ghost use Rattle.payments.specs.Entries.{Entries};
+ghost use Rattle.payments.specs.Recipient.{needs_row};
 ghost use Rattle.payments.specs.Sending.{sending_refusals};
 
 use rules::limits::{
@@ -19,6 +23,18 @@ use rules::refusal::{Refusal, first_of};
 use rules::{Edition, Submission, WalletNumber, WalletState};
 
 pub mod sums;
+
+// Whether a recipient needs a wallet row: check 43, for check 37.
+fn needs_row(wallets: &[u64], count: usize, id: u64) -> Result<bool, Refusal>
+    requires { count * Limits.WALLET_LEN ≤ length wallets.now }
+    ensures { result ≡ needs_row (look_up wallets.now count id) }
+{
+    match rows::numbered::find_wallet(wallets, count, id) {
+        WalletState::Missing => Ok(true),
+        WalletState::Live(_) => Ok(false),
+        WalletState::Closed(_) => Err(Refusal::WalletClosed),
+    }
+}
 
 // A grant: checks 12, 15, 43, 36, 37, 40, in this order.
 pub fn grant_refusal(
@@ -39,11 +55,7 @@ pub fn grant_refusal(
         (amount_out_of_range, Refusal::AmountOutOfRange),
         (recipient_invalid, Refusal::RecipientInvalid),
     ])?;
-    let needs_row = match rows::numbered::find_wallet(wallets, count, s.target) {
-        WalletState::Missing => true,
-        WalletState::Live(_) => false,
-        WalletState::Closed(_) => return Err(Refusal::WalletClosed),
-    };
+    let needs_row = needs_row(wallets, count, s.target)?;
     let grant_limit = sums::exceeds(granted, s.amount, MAX_GRANTED_MICRO);
     let wallet_table_full = needs_row & (wallets.len() / WALLET_LEN <= count);
     let journal_table_full = journal.len() / JOURNAL_LEN <= entries;
@@ -71,11 +83,7 @@ fn sending_refusal(
     let count = header[WALLETS] as usize;
     let held = header[ESCROWS] as usize;
     let entries = header[ENTRIES] as usize;
-    let needs_row = match rows::numbered::find_wallet(wallets, count, s.target) {
-        WalletState::Missing => true,
-        WalletState::Live(_) => false,
-        WalletState::Closed(_) => return Err(Refusal::WalletClosed),
-    };
+    let needs_row = needs_row(wallets, count, s.target)?;
     let opens = s.op == OPEN;
     let balance = rows::numbered::wallet(wallets, sender, BALANCE);
     let tx_cap = rows::numbered::wallet(wallets, sender, TX_CAP);

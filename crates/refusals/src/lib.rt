@@ -15,7 +15,7 @@ use rules::tables::Tables;
 
 mod admin;
 
-// Checks 12 to 43, by the operation.
+// Checks 12 to 43, by the operation: a `match` and no table of functions, as each arm is lent other tables.
 #[tactic(auto, using(crate::proofs::Given::given))]
 fn operation_refusal(ledger: Tables<'_>, s: Submission) -> Result<(), Refusal>
     requires { Checkable (ledger_in ledger) s }

@@ -1,17 +1,16 @@
--- `payments::sending_refusal` meets its contract: each arm is told what was found of the recipient.
-use mathlib.Core.Path.{ap, ◌∙◌}
+-- `payments::sending_refusal` meets its contract: a closed recipient is refused, and the limits are told whether it needs a row.
+use mathlib.Core.Path.{◌∙◌}
 use Prim.Native.Nat.{◌-◌}
 use Rattle.rules.proofs.Numbers.{numbered_first}
-use Rattle.payments.proofs.Recipient.{by_recipient}
+use Rattle.payments.proofs.Recipient.{recipient_refused, recipient_passed}
 use Rattle.payments.proofs.Paying.{limits, sending_by}
 use Rattle.payments.proofs.sending_refusal.Goals as goal
-use Rattle.payments.proofs.sending_refusal.Goals.{in-Missing, in-Live}
 
-pub returns-in-Closed : goal.returns-in-Closed
-returns-in-Closed c =
+pub returns-in_err-needs_row : goal.returns-in_err-needs_row
+returns-in_err-needs_row c =
     let start = c.args in
     let checks = limits start.edition start.header.now start.wallets.now start.escrows.now start.journal.now start.s (start.sender.0 - 1) in
-    λ K. sending_by _ _ _ _ K.receipts _ _ _ _ c.requires.6 (ap (by_recipient checks) c.in-Closed.ensures)
+    λ K. sending_by _ _ _ _ K.receipts _ _ _ _ c.requires.6 (recipient_refused _ checks _ c.needs_row.ensures c.in_err-needs_row.was c.from_residual.ensures)
 
 pub returns : goal.returns
 returns c =
@@ -21,7 +20,4 @@ returns c =
     numbered_first _ c.first_of.ensures
     ∙ sending_by _ _ _ _ K.receipts _ _ _ _ c.requires.6
     (rw (c.exceeds-daily_cap_exceeded.ensures, c.wallet-balance.ensures, c.wallet-tx_cap.ensures, c.wallet-daily_cap.ensures, c.counted-spent.ensures)
-    (elim c.match-find_wallet.branch [
-      | in-Missing w ↦ rw w.needs_row-is (ap (by_recipient checks) w.in-Missing.ensures)
-      | in-Live w ↦ rw w.needs_row-is (ap (by_recipient checks) w.in-Live.ensures)
-    ]))
+    (recipient_passed checks _ c.needs_row.ensures c.in_ok-needs_row.was))
