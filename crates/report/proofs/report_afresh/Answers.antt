@@ -6,7 +6,7 @@ use Rattle.report.proofs.Afresh.{wrong_length, had_stopped, ready_first, read_on
 use Rattle.report.proofs.report_afresh.Goals as goal
 
 pub returns-then-not-lengths_right : goal.returns-then-not-lengths_right
-returns-then-not-lengths_right c = wrong_length _ c.lengths_right.ensures _ c.args.recording.now (ap not c.if-not-lengths_right.true)
+returns-then-not-lengths_right c = rw c.from.ensures (wrong_length _ c.lengths_right.ensures _ c.args.recording.now (ap not c.if-not-lengths_right.true))
 
 pub returns-then-named-ne0 : goal.returns-then-named-ne0
 returns-then-named-ne0 c = had_stopped _ c.lengths_right.ensures _ c.args.recording.now (ap not c.if-not-lengths_right.false) c.if-named-ne0.true
