@@ -81,8 +81,8 @@ fn auto_accepted(
     0
 }
 
-// One receipt of a sweep that may still close a row: what it releases, if it is due. Of an escrow the like is another sum, of what expires, with no
-// marks.
+// One receipt of a sweep that may still close a row: what it releases, if it is due. `escrow_turn` is the like of an escrow:
+// it sums what expires, and has no marks.
 fn receipt_turn(
     edition: Edition,
     escrows: &[u64],
@@ -188,7 +188,8 @@ fn sweep_adds(
     [0, 0, released, 0, expired]
 }
 
-// What a submission that nothing refuses will add to the report's five figures, worked out on the tables as they are, before it is settled.
+// What a submission that nothing refuses will add to the report's five figures, worked out on the tables as they are, before it is settled. They
+// stand by place, in the paper's order.
 pub fn adds(
     edition: Edition,
     header: &[u64],
@@ -212,7 +213,7 @@ pub fn adds(
             [0, 0, 0, amount, 0]
         },
         Ok(Operation::Reply) => {
-            // a dispute
+            // a dispute; the bit is written out, and so computes to the definition's own
             if s.flags / ACCEPTS % 2 == 0 {
                 return [0; FIGURES];
             }

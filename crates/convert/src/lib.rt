@@ -18,7 +18,7 @@ fn new_operation(old: u8) -> u8
     if old == OLD_DISPUTE { REPLY } else { old }
 }
 
-// Its flags. An accept has no bit but that of the signature.
+// Its flags. An accept has no bit but that of the signature, which is written out and so computes to the definition's own.
 fn new_flags(old: u8, flags: u8) -> u8
     ensures { result ≡ new_flags old flags }
 {

@@ -1,6 +1,6 @@
 // One entry of a recording, counted in the month's report: the entry is decided first, then what it will add is worked out, and only then is it
-// settled. An entry that would bring a figure or its cell past 2^64 - 1 is neither counted nor applied. It is lent the five slices that the paper
-// names; what only looks is lent what it looks at.
+// settled. An entry that would bring a figure or its cell past 2^64 - 1 is neither counted nor applied. `count_entry` and `apply` are lent
+// the five slices that the paper names; `planned`, which only looks, is lent what it looks at.
 #![tactic(auto)]
 
 ghost use Rattle.std.specs.Prelude.{◌≡◌, length};

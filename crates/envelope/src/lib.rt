@@ -1,5 +1,6 @@
-// Checks 4 to 11: the clock, the system, the envelope and its nonce.
-// A one-line test (a flag's bit, an operation's byte) is written out: it computes to the definition's own, where a call has to be cited.
+// Checks 4 to 11: the clock, the system, the envelope and its nonce. Header and journal alone are lent: so the contract says that no other table
+// decides them.
+// A one-line test (a flag's bit, an operation's byte) is written out: it computes to the definition's own, and a call would have to be cited.
 // The header is asked to have the words that are read, and no more (`ENTRIES < length header`), as a check needs no sound ledger.
 #![tactic(auto)]
 

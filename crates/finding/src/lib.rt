@@ -1,5 +1,4 @@
-// The wallets that a record names, looked up once in a call. The checks and then the operation are told what was found, and look for none of them
-// again.
+// The wallets that a record names, looked up once in a call. Nothing calls this yet.
 #![tactic(auto)]
 
 ghost use Rattle.std.specs.Prelude.{◌≡◌, ◌*◌, ◌≤◌, ◌<◌, get_or, length};

@@ -1,7 +1,7 @@
 // Checks 15 to 43 of the operations on escrows and receipts: release and refund, claim, the reply to a claim. Each condition is worked out by
-// the paper's name, and then the first that holds is taken, in the order of check. A function that needs not all the tables is lent only those that
+// the paper's name, and then the first that holds is taken, in the order of check. A function that does not need all tables is lent only those that
 // it looks at: so its contract says that no other table decides it.
-// A one-line test (a flag's bit, an open escrow, a full table) is written out: it computes to the definition's own, where a call has to be cited.
+// A one-line test (a flag's bit, an open escrow, a full table) is written out: it computes to the definition's own, and a call would have to be cited.
 // The header is asked to have the words that are read, and no more (`ENTRIES < length header`), as a check needs no sound ledger.
 #![tactic(auto)]
 

@@ -96,7 +96,8 @@ fn party(wallets: &[u64], written: usize, id: u64) -> WalletNumber
     }
 }
 
-// Whom an ended escrow pays: the recipient if it is released, else the sender, whose wallet is known.
+// Whom an ended escrow pays: the recipient if it is released, else the sender, whose wallet is known. The state is the table's word, as in
+// `close_escrow`.
 fn payee(
     wallets: &[u64],
     written: usize,
@@ -116,7 +117,8 @@ fn payee(
 }
 
 // State, closed at and closing signer of an escrow. The state is the table's word: the definitions put any, and so do this, `end_escrow` and
-// `close_receipt`. A receipt has the like in columns of its own, and its rows have one length in every edition.
+// `close_receipt`. A receipt has the like in columns of its own, and its rows have one length in every edition. State, time and signer come
+// one by one, as the definitions take them.
 fn close_escrow(
     edition: Edition,
     escrows: &mut [u64],
@@ -197,7 +199,8 @@ pub fn link(receipts: &[u64], number: ReceiptNumber) -> Option<EscrowNumber>
     }
 }
 
-// A receipt is accepted. Its escrow is released if it is open and not stale, and is the word; if that is impossible, 29 is stored.
+// A receipt is accepted. Its escrow is released if it is open and not stale, and is the word; if that is impossible, 29 is stored. The answer is the
+// word of the definitions' `done`, 0 where there is none to say.
 pub fn accept_receipt(
     edition: Edition,
     header: &[u64],

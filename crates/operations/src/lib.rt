@@ -1,6 +1,7 @@
 // What each operation but the sweep does to the tables, over the small moves. Clock and journal are left to `settling`. What an operation
 // may rely on stands in specs/Needs.antt; it is what no refusal and a sound ledger leave. Each answers the word of the definitions' `done`, which
-// is 0 where there is none to say, and is lent only the tables that it reads or changes.
+// is 0 where there is none to say, and is lent only the tables that it reads or changes. A flag's bit, and each look-up with its
+// `let .. else`, is written out: the bit computes to the definition's own, and an early return can stand in no function of its own.
 #![tactic(auto)]
 
 ghost use Rattle.std.specs.Prelude.{◌≡◌, ◌-◌};

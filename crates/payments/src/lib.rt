@@ -1,6 +1,6 @@
 // Checks 12 to 43 of the operations that bring credits to a wallet: grant, transfer and open. Each check is lent only the tables that it looks at,
 // and not the ledger in one piece: so its contract says that no other table decides it.
-// A one-line test (a full table) is written out: it computes to the definition's own, where a call has to be cited.
+// A one-line test (a full table, an operation's byte) is written out: it computes to the definition's own, and a call would have to be cited.
 // The header is asked to have the words that are read, and no more (`ENTRIES < length header`), as a check needs no sound ledger.
 #![tactic(auto)]
 
@@ -136,7 +136,7 @@ pub fn paying_refusal(
             ])?;
             sending_refusal(edition, header, wallets, escrows, journal, s, sender)
         },
-        // it is not frozen, so it pays nobody who is invalid before it is told so
+        // a closed sender is not frozen: an invalid recipient is told first, and then that it is closed
         WalletState::Closed(_) => first_of([
             (recipient_invalid, Refusal::RecipientInvalid),
             (true, Refusal::WalletClosed),

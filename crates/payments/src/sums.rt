@@ -15,7 +15,8 @@ pub fn exceeds(a: u64, b: u64, cap: u64) -> bool
 }
 
 // The amounts of the signer's transfers and opens, of the first n journal rows, that are not older than 24 hours at the clock. The rows
-// alone decide: what an open held counts, whatever became of its escrow.
+// alone decide: what an open held counts, whatever became of its escrow. Which operations pay is written out, as the definition's list
+// computes to it.
 pub fn counted(journal: &[u64], n: usize, signer: u64, clock: u64) -> u64
     requires { Entries journal.now n }
     ensures { result ≡ counted_of journal.now n signer clock }

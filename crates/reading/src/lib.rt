@@ -1,7 +1,7 @@
 // The journal read once, the newest row first: whether its rows are right, whether signer and nonce were used, and what the daily cap
 // counts of the signer. No branch of the loop depends on who signed a row or what it did, so that no journal makes it slower; what a row
-// adds is chosen. The choices are those of which the compiler makes conditional moves: n, where any number but 0 would do, is one that
-// it knows nothing of.
+// adds is chosen. The choices are written so that the compiler makes conditional moves of them: where any number but 0 would do,
+// n stands, of which it knows nothing. Which operations pay is written out, as the definition's list computes to it.
 #![tactic(auto)]
 
 ghost use Rattle.std.specs.Prelude.{◌≡◌, cond, ◌&&◌, ◌||◌, ◌+◌, ◌-◌, ◌*◌, ◌≤◌, eqb, leb, get_or, length};

@@ -10,7 +10,8 @@ use rules::limits::{
 use rules::{Form, Submission};
 
 // Whatever the operation does not use is zero, and the rest is within its bounds. The tests are joined in the definition's order by `&` and `|`,
-// which do not branch as `&&` and `matches!` do, so that all of them are one term; and a bit is taken by `/` and `%`, as the definition takes it.
+// which do not branch as `&&` and `matches!` do, so that all of them are one term; and a bit is taken by `/` and `%`, as the definition takes it. By the
+// names of `Operation`, or by patterns, the computing does not end.
 pub fn well_formed(form: Form, s: Submission) -> bool
     ensures { result ≡ well_formed_by form s }
 {

@@ -13,7 +13,7 @@ use rules::{Form, Submission};
 mod form;
 pub mod trips;
 
-// The fields that 108 bytes say.
+// The fields that 108 bytes say. The offsets are the paper's table, and compute to the definition's fields.
 fn fields(b: &[u8]) -> Submission
     requires { length b.now ≡ Limits.RECORD_BYTES }
     ensures { result ≡ decode b.now }

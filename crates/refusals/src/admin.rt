@@ -1,6 +1,6 @@
 // Checks 12 to 43 of the operations that move no credits by themselves: sweep, freeze, caps and close. Each is lent only the tables that it looks
 // at: so its contract says that no other table decides it.
-// A one-line test (a full table) is written out: it computes to the definition's own, where a call has to be cited.
+// A one-line test (a full table) is written out: it computes to the definition's own, and a call would have to be cited.
 // The header is asked to have the words that are read, and no more (`ENTRIES < length header`), as a check needs no sound ledger.
 ghost use Rattle.std.specs.Prelude.{◌≡◌, ◌&&◌, ◌+◌, ◌*◌, ◌≤◌, ◌<◌, eqb, get_or, length};
 ghost use Rattle.rules.specs.Limits;

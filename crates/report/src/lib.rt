@@ -1,5 +1,6 @@
-// The month's report, over the five slices that the paper names: a recording is replayed on a fresh ledger, one cell of the grid is raised for each entry read, and what the entry adds is added
-// to the figures. What is counted is the core's own answer. An entry that would bring a figure or its cell past 2^64 - 1 is neither counted nor
+// The month's report, over the five slices that the paper names: a recording is replayed on a fresh ledger, one cell of the grid is raised for each
+// entry read, and what the entry adds is added to the figures. What holds for every edition is written and proved once; the public call is that of
+// the first, and asks nothing. What is counted is the core's own answer. An entry that would bring a figure or its cell past 2^64 - 1 is neither counted nor
 // applied: so each entry is decided first, then what it will add is worked out, and only then is it settled. Grid, figures and what is named stand
 // beside each other: the paper names the grid as an array of arrays by value, and C lends the other two.
 #![tactic(auto)]
@@ -12,9 +13,7 @@ ghost use Rattle.rules.specs.Report.{report_of, telling, telling_of, report_on, 
 ghost use Rattle.rules.specs.Sound.{Ready};
 ghost use Rattle.rules.specs.Submit.{submit};
 
-use rules::limits::{
-    ANSWERS, ENTRY_BYTES, FIGURES, GRID_ROWS, NAMED, NAMED_FIGURE, RECORD_BYTES,
-};
+use rules::limits::{ANSWERS, ENTRY_BYTES, FIGURES, GRID_ROWS, NAMED, NAMED_FIGURE, RECORD_BYTES};
 use rules::refusal::Refusal;
 use rules::tables::Tables;
 use rules::{Edition, FIRST, Told};
@@ -41,7 +40,7 @@ fn report_on(
     for k in 0..entries {
         let at = k * ENTRY_BYTES;
         let end = at + RECORD_BYTES;
-        // Rattle proves no call whose array is laid in a local that is there already: so by a name of its own.
+        // Rattle proves no call whose array is stored in a local that exists already, so its result gets a name of its own.
         let more = counting::count_entry(
             edition,
             header,

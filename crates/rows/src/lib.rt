@@ -49,7 +49,7 @@ pub fn put_row(t: &mut [u64], len: usize, row: usize, vs: &[u64])
     }
 }
 
-// n where b holds, else rest.
+// n where b holds, else rest: a choice that the compiler makes without a branch.
 pub fn choose(b: bool, n: u64, rest: u64) -> u64
     ensures { result ≡ cond b n rest }
 {

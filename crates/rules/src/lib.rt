@@ -18,7 +18,8 @@ pub mod operation;
 pub mod refusal;
 pub mod tables;
 
-// The fields of a submission record, as C has them too: `op` and `flags` are the record's own bytes, which any host may pass.
+// The fields of a submission record, as C has them too: `op` and `flags` are the record's own bytes, which any host
+// may pass, and the hash is four words of the struct that C lays out.
 #[repr(C)]
 #[derive(Clone, Copy)]
 pub struct Submission {
@@ -101,7 +102,7 @@ pub struct Answer {
     pub word: u64,
 }
 
-// What is decided of a record before anything changes: as what it is read, and whether it is refused.
+// What is decided of a record before anything changes: what it is read as, and whether it is refused.
 #[derive(Clone, Copy)]
 pub struct Decided {
     pub submission: Submission,
@@ -135,7 +136,8 @@ pub enum Found {
     Disagrees(u64, Answer, Answer),
 }
 
-// The same as numbers, as `milebeacon_replay` answers it: the answer's, the finding's, how many entries were replayed, and both answers to the last of these if it disagrees.
+// The same as numbers, as `milebeacon_replay` answers it: the answer's, the finding's, how many entries were replayed, and both answers to the last
+// of these if it disagrees.
 #[repr(C)]
 #[derive(Clone, Copy)]
 pub struct Verdict {

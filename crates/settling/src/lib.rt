@@ -13,7 +13,7 @@ use rules::operation::Operation;
 use rules::{Edition, Submission};
 
 // The operation, by its name. Each is lent the tables that it changes, and so a `match`, and no table of functions of one type; the journal is
-// lent to none.
+// lent to none. It answers the word of the definitions' `done`, 0 where there is none to say.
 fn operate(
     edition: Edition,
     header: &mut [u64],
@@ -48,7 +48,7 @@ fn operate(
     }
 }
 
-// All but a sweep add one journal row.
+// All but a sweep add one journal row. The byte is tested by its number: it then computes to the definition's own test.
 fn enter(header: &mut [u64], journal: &mut [u64], s: Submission, word: u64)
     requires { (Limits.ENTRIES < length header.old) × (get_or header.old Limits.ENTRIES 0 ≤ Limits.MAX_ENTRIES) }
     ensures { (K : Ledger) → let L = any K with_header header with_journal journal in L.exit ≡ enter s word L.entry }

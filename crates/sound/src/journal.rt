@@ -10,7 +10,7 @@ use rules::limits::{
     TRANSFER,
 };
 
-// Transfers and opens have an amount that is held to its limits.
+// Transfers and opens have an amount that is held to its limits; they are written out, as the definition has them.
 fn entry_right(j: &[u64], k: usize) -> bool
     requires { k * Limits.JOURNAL_LEN + Limits.JOURNAL_LEN ≤ length j.now }
     ensures { result ≡ all (entry_tests (entries_in j.now) k) }

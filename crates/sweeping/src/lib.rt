@@ -21,7 +21,7 @@ use rules::limits::{
 };
 use rules::{Edition, EscrowNumber, ReceiptNumber};
 
-// The signer of what a sweep closes.
+// The signer of what a sweep closes: the definitions write 0.
 const NOBODY: u64 = 0;
 
 // Whether a row is due: it is still waiting, and its deadline is before now. One test for receipts and escrows, over their words.
@@ -76,7 +76,7 @@ fn sweep_receipt(
     due
 }
 
-// One escrow, likewise; it expires with its credits returned.
+// One escrow, likewise; it expires with its credits returned. The like of a receipt has other columns, and is lent other tables.
 fn sweep_escrow(
     edition: Edition,
     header: &[u64],
