@@ -5,13 +5,13 @@
 
 ghost use Rattle.std.specs.Prelude.{◌≡◌, length};
 ghost use Rattle.rules.specs.Limits;
-ghost use Rattle.rules.specs.Ledger.{Ledger, Sized};
+ghost use Rattle.rules.specs.Ledger.{Ledger, Sized, ledger_of};
 ghost use Rattle.rules.specs.Moments.{tables, lent, any, ◌of_edition◌, ◌seeing_header◌, ◌seeing_escrows◌, ◌seeing_receipts◌};
-ghost use Rattle.rules.specs.Numbers.{as_number};
+ghost use Rattle.rules.specs.Numbers.{as_number, decided_as};
 ghost use Rattle.rules.specs.Report.{report_of, adds_of};
 ghost use Rattle.rules.specs.Settle.{settle};
 ghost use Rattle.rules.specs.Sound.{Ready};
-ghost use Rattle.rules.specs.Submit.{finish};
+ghost use Rattle.rules.specs.Submit.{decided, finish};
 ghost use Rattle.settling.specs.Needs.{Settles};
 ghost use Rattle.counting.specs.Turn.{Plans, turned, turn};
 
@@ -19,6 +19,32 @@ use rules::limits::{ANSWERS, FIGURES, GRID_ROWS, NAMED, OPERATION_AT};
 use rules::refusal::number;
 use rules::tables::Tables;
 use rules::{Decided, Edition};
+
+// What the record of an entry is decided to be. It is a call of its own, so that the ledger in one piece lies in its memory and not in `count_entry`'s,
+// where the compiler, with so many stores in its way, would clear and copy a grid more for each entry.
+#[inline(never)]
+fn decide(
+    edition: Edition,
+    header: &[u64],
+    wallets: &[u64],
+    escrows: &[u64],
+    receipts: &[u64],
+    journal: &[u64],
+    bytes: &[u8],
+) -> Decided
+    requires { Sized edition × Ready (ledger_of edition header.now wallets.now escrows.now receipts.now journal.now) }
+    ensures { decided_as result ≡ decided (ledger_of edition header.now wallets.now escrows.now receipts.now journal.now) bytes.now }
+{
+    let ledger = Tables {
+        edition,
+        header,
+        wallets,
+        escrows,
+        receipts,
+        journal,
+    };
+    editions::decide(ledger, bytes)
+}
 
 // What a submission that was decided will add to the figures: a refusal adds nothing.
 fn planned(
@@ -79,15 +105,7 @@ pub fn count_entry(
     requires { Sized edition × Ready (tables edition header wallets escrows receipts journal) × (length bytes.now ≡ Limits.RECORD_BYTES) }
     ensures { let L = lent edition header wallets escrows receipts journal in turned (report_of result figures.new named.new) L.exit ≡ turn (report_of grid figures.old named.old) L.entry bytes.now }
 {
-    let ledger = Tables {
-        edition,
-        header,
-        wallets,
-        escrows,
-        receipts,
-        journal,
-    };
-    let decided = editions::decide(ledger, bytes);
+    let decided = decide(edition, header, wallets, escrows, receipts, journal, bytes);
     let answer = number(decided.outcome);
     let row = grid::row_of(bytes[OPERATION_AT]);
     let column = answer as usize;
