@@ -37,13 +37,13 @@ pub fn copy_ids(w: &[u64], n: usize, ids: &mut [u64; NUMBERS])
     }
 }
 
-// Whether no row before row i has its id.
+// Whether no row before row i has its id. A fold, which looks at every row, and not `all`: with no end in its midst the compiler takes several at once.
 fn differs_before(ids: &[u64; NUMBERS], i: usize) -> bool
     requires { i < Limits.MAX_WALLETS }
     ensures { result ≡ every i (differs ids.now i) }
 {
     let x = ids[i + 1];
-    (0..i).all(|j| ids[j + 1] != x)
+    (0..i).fold(true, |differs, j| differs & (ids[j + 1] != x))
 }
 
 // Whether the ids of the first n rows differ, by comparing each two.

@@ -80,12 +80,13 @@ fn opens_to(escrows: &[u64], len: usize, i: usize, id: u64) -> bool
     (escrows[i * len + TO] == id) & (escrows[i * len + ESCROW_STATE] == IS_OPEN)
 }
 
-// Whether one of the first n escrows to an id is open, stale or not.
+// Whether one of the first n escrows to an id is open, stale or not. A fold, which looks at every row, and not `any`: that ends at a row, and the
+// branches to it are guessed wrong where many of the rows are to the id, in no order.
 fn open_to(escrows: &[u64], len: usize, n: usize, id: u64) -> bool
     requires { (n * len ≤ length escrows.now) × (Limits.ESCROW_LEN ≤ len) }
     ensures { result ≡ open_to len escrows.now n id }
 {
-    (0..n).any(|i| opens_to(escrows, len, i, id))
+    (0..n).fold(false, |found, i| found | opens_to(escrows, len, i, id))
 }
 
 // A close: checks 16, 43, 42, 40, in this order.
