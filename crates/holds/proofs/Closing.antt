@@ -1,9 +1,9 @@
 -- A release or a refund: the rows that the table of refusals leaves for it, and that its checks are those, in their order. The
 -- hypotheses of the law are what the calls ensure.
-use mathlib.Core.Path.{◌≡◌, sym, ◌∙◌}
+use mathlib.Core.Path.{◌≡◌, refl, sym, ◌∙◌}
 use mathlib.Core.List.{List, [], ◌∷◌}
 use mathlib.Core.Logic.{◌⊎◌, ⊎_elim}
-use mathlib.Core.Bool.{true, false, not, cond, ◌&&◌, or-false}
+use mathlib.Core.Bool.{Bool, true, false, not, cond, ◌&&◌, or-false}
 use Prim.Native.Nat.{ℕ, ◌-◌}
 use lib.ListN.{get_or}
 use lib.Dec.{eqb, leb}
@@ -38,16 +38,20 @@ pub closing_absent :
 unfolding of_closing
 closing_absent L s o t = sym (closing_rows L s o ∙ rw t)
 
+-- of a row that is written, and of one that is not, of which nothing is asked
 pub closing_by :
-    (ed : Edition) (h w e r j : List ℕ) (s : Submission) (from deadline state : ℕ)
+    (ed : Edition) (h w e r j : List ℕ) (s : Submission) (there : Bool) (from deadline state : ℕ)
     → (s.op ≡ RELEASE) ⊎ (s.op ≡ REFUND)
-    → written (get_or h ESCROWS 0) s.target ≡ true
-    → from ≡ word e ed.escrow (s.target - 1) FROM
-    → deadline ≡ word e ed.escrow (s.target - 1) ESCROW_DEADLINE
-    → state ≡ word e ed.escrow (s.target - 1) ESCROW_STATE
-    → cond (not (eqb s.signer from) && clear s ADMIN) 28
+    → written (get_or h ESCROWS 0) s.target ≡ there
+    → (there ≡ true → from ≡ word e ed.escrow (s.target - 1) FROM)
+    → (there ≡ true → deadline ≡ word e ed.escrow (s.target - 1) ESCROW_DEADLINE)
+    → (there ≡ true → state ≡ word e ed.escrow (s.target - 1) ESCROW_STATE)
+    → cond there
+    (cond (not (eqb s.signer from) && clear s ADMIN) 28
     (cond (not (eqb state IS_OPEN && leb s.now deadline)) 29
-    (cond (full JOURNAL_LEN j (get_or h ENTRIES 0)) 40 0))
+    (cond (full JOURNAL_LEN j (get_or h ENTRIES 0)) 40 0)))
+    27
     ≡ first (operation_refusals (ledger_of ed h w e r j) s)
 unfolding of_closing
-closing_by ed h w e r j s from deadline state o t b d f = sym (closing_rows _ s o ∙ rw (t, b, d, f))
+closing_by ed h w e r j s true from deadline state o t b d f = sym (closing_rows _ s o ∙ rw (t, b refl, d refl, f refl))
+closing_by ed h w e r j s false from deadline state o t b d f = closing_absent (ledger_of ed h w e r j) s o t

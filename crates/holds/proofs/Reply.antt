@@ -1,8 +1,8 @@
 -- A reply to a claim: the rows that the table of refusals leaves for it, and that its checks are those, in their order. The
 -- hypotheses of the law are what the calls ensure.
-use mathlib.Core.Path.{◌≡◌, sym, ◌∙◌}
+use mathlib.Core.Path.{◌≡◌, refl, sym, ◌∙◌}
 use mathlib.Core.List.{List, [], ◌∷◌}
-use mathlib.Core.Bool.{true, false, not, cond, ◌&&◌}
+use mathlib.Core.Bool.{Bool, true, false, not, cond, ◌&&◌}
 use Prim.Native.Nat.{ℕ, ◌-◌}
 use lib.ListN.{get_or}
 use lib.Dec.{eqb, ltb}
@@ -32,18 +32,22 @@ pub reply_absent : (L : Ledger) (s : Submission) → s.op ≡ REPLY → written 
 unfolding of_reply
 reply_absent L s o t = sym (reply_rows L s o ∙ rw t)
 
+-- of a row that is written, and of one that is not, of which nothing is asked
 pub reply_by :
-    (ed : Edition) (h w e r j : List ℕ) (s : Submission) (requester deadline state : ℕ)
+    (ed : Edition) (h w e r j : List ℕ) (s : Submission) (there : Bool) (requester deadline state : ℕ)
     → s.op ≡ REPLY
-    → written (get_or h RECEIPTS 0) s.target ≡ true
-    → requester ≡ word r RECEIPT_LEN (s.target - 1) REQUESTER
-    → deadline ≡ word r RECEIPT_LEN (s.target - 1) ACCEPTANCE_DEADLINE
-    → state ≡ word r RECEIPT_LEN (s.target - 1) RECEIPT_STATE
-    → cond (not (eqb s.signer requester)) 33
+    → written (get_or h RECEIPTS 0) s.target ≡ there
+    → (there ≡ true → requester ≡ word r RECEIPT_LEN (s.target - 1) REQUESTER)
+    → (there ≡ true → deadline ≡ word r RECEIPT_LEN (s.target - 1) ACCEPTANCE_DEADLINE)
+    → (there ≡ true → state ≡ word r RECEIPT_LEN (s.target - 1) RECEIPT_STATE)
+    → cond there
+    (cond (not (eqb s.signer requester)) 33
     (cond (not (eqb state PENDING)) 34
     (cond (ltb deadline s.now) 41
     (cond (clear s ACCEPTS && clear s REASON_GIVEN) 35
-    (cond (full JOURNAL_LEN j (get_or h ENTRIES 0)) 40 0))))
+    (cond (full JOURNAL_LEN j (get_or h ENTRIES 0)) 40 0)))))
+    32
     ≡ first (operation_refusals (ledger_of ed h w e r j) s)
 unfolding of_reply
-reply_by ed h w e r j s requester deadline state o t b d f = sym (reply_rows _ s o ∙ rw (t, b, d, f))
+reply_by ed h w e r j s true requester deadline state o t b d f = sym (reply_rows _ s o ∙ rw (t, b refl, d refl, f refl))
+reply_by ed h w e r j s false requester deadline state o t b d f = reply_absent (ledger_of ed h w e r j) s o t

@@ -1,5 +1,6 @@
 -- `holds::closing_refusal` meets its contract.
 use mathlib.Core.Path.{sym, ◌∙◌}
+use mathlib.Core.Bool.{true}
 use Rattle.rules.proofs.Numbers.{numbered_first}
 use Rattle.holds.proofs.Closing.{closing_absent, closing_by}
 use Rattle.holds.proofs.closing_refusal.Goals as goal
@@ -10,8 +11,8 @@ returns-then-not-written c = λ K. closing_absent _ _ c.requires.2 (sym c.writte
 pub returns : goal.returns
 returns c =
     λ K. numbered_first _ c.first_of.ensures
-    ∙ closing_by _ _ K.wallets _ K.receipts _ _ _ _ _
+    ∙ closing_by _ _ K.wallets _ K.receipts _ _ true _ _ _
     c.requires.2 (sym c.written.ensures.is ∙ c.if-not-written.false)
-    c.escrow-from.ensures
-    c.escrow-deadline.ensures
-    c.escrow-state.ensures
+    (λ _. c.escrow-from.ensures)
+    (λ _. c.escrow-deadline.ensures)
+    (λ _. c.escrow-state.ensures)

@@ -1,5 +1,6 @@
 -- `holds::reply_refusal` meets its contract.
 use mathlib.Core.Path.{sym, ◌∙◌}
+use mathlib.Core.Bool.{true}
 use Rattle.rules.proofs.Numbers.{numbered_first}
 use Rattle.holds.proofs.Reply.{reply_absent, reply_by}
 use Rattle.holds.proofs.reply_refusal.Goals as goal
@@ -10,8 +11,8 @@ returns-then-not-written c = λ K. reply_absent _ _ c.requires.2 (sym c.written.
 pub returns : goal.returns
 returns c =
     λ K. numbered_first _ c.first_of.ensures
-    ∙ reply_by K.edition _ K.wallets K.escrows _ _ _ _ _ _
+    ∙ reply_by K.edition _ K.wallets K.escrows _ _ _ true _ _ _
     c.requires.2 (sym c.written.ensures.is ∙ c.if-not-written.false)
-    c.receipt-requester.ensures
-    c.receipt-deadline.ensures
-    c.receipt-state.ensures
+    (λ _. c.receipt-requester.ensures)
+    (λ _. c.receipt-deadline.ensures)
+    (λ _. c.receipt-state.ensures)
