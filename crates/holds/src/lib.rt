@@ -132,8 +132,8 @@ pub fn claim_refusal(ledger: Tables<'_>, s: Submission) -> Result<(), Refusal>
     let requester = rows::numbered::find_wallet(ledger.wallets, count, s.target);
     match (provider, requester) {
         (WalletState::Closed(_), _) | (_, WalletState::Closed(_)) => Err(Refusal::WalletClosed),
-        (WalletState::Missing, WalletState::Missing)
-        | (WalletState::Missing, WalletState::Live(_)) => Err(Refusal::ProviderNotFound),
+        (WalletState::Missing, WalletState::Missing) => Err(Refusal::ProviderNotFound),
+        (WalletState::Missing, WalletState::Live(_)) => Err(Refusal::ProviderNotFound),
         (WalletState::Live(_), WalletState::Missing) => Err(Refusal::RequesterNotFound),
         (WalletState::Live(_), WalletState::Live(_)) => {
             terms_refusal(

@@ -19,8 +19,8 @@ by c p q = claim_by _ _ _ _ c.requires.4 c.if-s.false (sym p ∙ c.find_wallet-p
 pub returns-in-Missing-Missing : goal.returns-in-Missing-Missing
 returns-in-Missing-Missing c = by (goal.at.returns-in-Missing-Missing c).After-find_wallet-requester c.in-Missing-Missing.is-0 c.in-Missing-Missing.is-1
 
-pub returns-in-Missing-Missing-2 : goal.returns-in-Missing-Missing-2
-returns-in-Missing-Missing-2 c = by (goal.at.returns-in-Missing-Missing-2 c).After-find_wallet-requester c.in-Missing-Missing.is-0 c.in-Missing-Missing.is-1
+pub returns-in-Missing-Live : goal.returns-in-Missing-Live
+returns-in-Missing-Live c = by (goal.at.returns-in-Missing-Live c).After-find_wallet-requester c.in-Missing-Live.is-0 c.in-Missing-Live.is-1
 
 pub returns-in-Live-Missing : goal.returns-in-Live-Missing
 returns-in-Live-Missing c = by (goal.at.returns-in-Live-Missing c).After-find_wallet-requester c.in-Live-Missing.is-0 c.in-Live-Missing.is-1
